@@ -1,0 +1,9 @@
+pub mod Lists
+pub mod Number
+pub mod Signed
+pub mod Word
+pub mod Answer
+pub mod Reader
+pub mod Takes
+pub mod Exact
+pub mod At

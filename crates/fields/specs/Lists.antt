@@ -1,0 +1,48 @@
+-- Lists: what the definitions of every format share, and small facts.
+-- Assumes nothing.
+use mathlib.Core.Path.{_≡_, refl, sym, ap, _∙_}
+use Prim.Native.Nat.{ℕ, _+_, _-_, _<_, _≤_}
+use native.Mathlib.Numerals.{add-one}
+use native.Mathlib.Omega.{arith}
+use mathlib.Core.List.{List, [], _∷_, _++_}
+use lib.ListN.{length, take, drop, getD, length-take, length-drop, length-append}
+use lib.Seq.{drop-cons, drop-drop, take-add, take-at, drop-at, length-take-le}
+
+-- the bytes of all elements, one after another
+abbrev pub flat : {A : Type 0} → (A → List ℕ) → List A → List ℕ
+flat put [] = []
+flat put (x ∷ xs) = put x ++ flat put xs
+
+-- P holds of every element
+abbrev pub Each : {A : Type 0} → (A → Type 0) → List A → Type 0
+Each P [] = Unit {0}
+Each P (x ∷ xs) = P x × Each P xs
+
+-- from a contradiction anything follows
+pub clash : {X : Type 0} → _≡_ {A = ℕ} 0 1 → X
+clash e = absurd (omega arith)
+
+pub drop-one : (l : List ℕ) (k : ℕ) → k < length l → drop k l ≡ getD l k 0 ∷ drop (k + 1) l
+drop-one l k h = rw (add-one k) (drop-cons l k 0 h)
+
+pub nil-of-length : {A : Type 0} (l : List A) → length l ≡ 0 → l ≡ []
+nil-of-length [] h = refl
+nil-of-length (x ∷ l) h = absurd (omega arith)
+
+-- a part of a list: its length, and that it is the end of a front of the list
+module _ (s : List ℕ) (at n : ℕ) (h : at + n ≤ length s) where
+  pub length-part : length (take n (drop at s)) ≡ n
+  length-part = simp (length-take, length-drop) (omega arith)
+
+  pub part-front : drop at (take (at + n) s) ≡ take n (drop at s)
+  part-front = rw (take-add at n s) (drop-at (take at s) (take n (drop at s)) at (length-take-le at s (omega arith)))
+
+-- what stands at a place of a list: d, after a, where a and d begin what is left at `at`
+module _ (s : List ℕ) (at : ℕ) (a d rest : List ℕ) (e : a ++ (d ++ rest) ≡ drop at s) where
+  pub part-there : take (length d) (drop (at + length a) s) ≡ d
+  part-there =
+      let f : drop (at + length a) s ≡ d ++ rest = sym (drop-drop (length a) at s) ∙ ap (drop (length a)) (sym e) ∙ drop-at a (d ++ rest) (length a) refl in
+      rw f (take-at d rest (length d) refl)
+
+  pub part-lengths : length a + (length d + length rest) ≡ length s - at
+  part-lengths = omega (arith, length-append a (d ++ rest), length-append d rest, ap length e, length-drop at s)

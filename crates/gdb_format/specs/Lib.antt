@@ -1,0 +1,11 @@
+pub mod Settings
+pub mod Trace
+pub mod Lines
+pub mod Layout
+pub mod Decode
+pub mod Opening
+pub mod Seen
+pub mod ExactBlock
+pub mod ExactFrame
+pub mod ExactLines
+pub mod Exactness

@@ -1,0 +1,64 @@
+-- What a GDB trace is, and how it is laid out in bytes. A trace holds no places: where a thing stands follows from the layout.
+-- Assumes nothing: these are definitions.
+use Prim.Native.Nat.{ℕ}
+use mathlib.Core.List.{List, [], _∷_, _++_}
+use lib.ListN.{length}
+use lib.IntN.{ℤ}
+use Rattle.fields.specs.Lists.{flat}
+use Rattle.fields.specs.Number.{field}
+use Rattle.fields.specs.Signed.{unsigned64}
+use Rattle.gdb_format.specs.declared.Format.{Format}
+
+pub data Block : Type 0 where
+  registers : List ℕ → Block  -- the register bytes
+  memory : ℕ → List ℕ → Block  -- an address, and the bytes from there
+  variable : ℕ → ℤ → Block  -- a variable's number and value
+
+pub record Frame : Type 0 where
+  pub tracepoint : ℕ
+  pub blocks : List Block
+
+-- the description's lines, each without its 0A and the closing empty one not among them, and the frames
+pub record Trace : Type 0 where
+  pub lines : List (List ℕ)
+  pub frames : List Frame
+
+abbrev pub traceOf : List (List ℕ) → List Frame → Trace
+traceOf ls fs = record { lines = ls; frames = fs }
+
+-- the same description with other frames
+abbrev pub withFrames : Trace → List Frame → Trace
+withFrames t fs = traceOf (t .lines) fs
+
+-- ---- the layout in bytes
+
+abbrev pub head : List ℕ
+head = 0x7F ∷ 0x54 ∷ 0x52 ∷ 0x41 ∷ 0x43 ∷ 0x45 ∷ 0x30 ∷ 0x0A ∷ []
+
+-- a line is ended by 0A
+abbrev pub putLine : List ℕ → List ℕ
+putLine l = l ++ 0x0A ∷ []
+
+-- the *opening*: head and description, with the empty line's 0A
+unfoldable pub opening : List (List ℕ) → List ℕ
+opening ls = head ++ (flat putLine ls ++ 0x0A ∷ [])
+
+-- `R`: the bytes. `M`: 8-byte address, 2-byte length, the bytes. `V`: 4-byte number, 8-byte signed value.
+abbrev pub putBlock : Format → Block → List ℕ
+putBlock f (registers b) = 0x52 ∷ b
+putBlock f (memory a b) = 0x4D ∷ field (f .order) 8 a ++ (field (f .order) 2 (length b) ++ b)
+putBlock f (variable n v) = 0x56 ∷ field (f .order) 4 n ++ field (f .order) 8 (unsigned64 v)
+
+-- blocks fill the data exactly
+abbrev pub dataOf : Format → Frame → List ℕ
+dataOf f r = flat (putBlock f) (r .blocks)
+
+-- a frame's head, a 2-byte tracepoint number and a 4-byte size, and then its data
+abbrev pub putData : Format → ℕ × List ℕ → List ℕ
+putData f h = field (f .order) 2 (h .0) ++ (field (f .order) 4 (length (h .1)) ++ h .1)
+
+abbrev pub putFrame : Format → Frame → List ℕ
+putFrame f r = putData f (r .tracepoint, dataOf f r)
+
+unfoldable pub encode : Format → Trace → List ℕ
+encode f t = opening (t .lines) ++ flat (putFrame f) (t .frames)

@@ -1,0 +1,1 @@
+// The questions about a GDB trace. Their definitions are in specs/Questions.antt.

@@ -1,0 +1,132 @@
+-- What a frame's step answers in each case that the code tells apart: first its head, then its blocks.
+-- Assumes nothing.
+use mathlib.Core.Path.{_≡_, refl, sym, ap, _∙_}
+use mathlib.Core.Option.{Option, none, some}
+use Prim.Native.Nat.{ℕ, _+_, _-_, _<_, _≤_}
+use native.Mathlib.Nat.{lt-of-not-le}
+use native.Mathlib.Decide.{decLe}
+use native.Mathlib.Omega.{arith}
+use mathlib.Core.Logic.{by-cases}
+use mathlib.Core.List.{List, [], _∷_, _++_, append-assoc}
+use lib.ListN.{length, take, drop, length-append, length-drop}
+use Rattle.refusals.specs.Refusal.{shortHead, dataPastFile}
+use Rattle.fields.specs.Lists.{length-part, part-front, part-there, part-lengths}
+use Rattle.fields.specs.Number.{Bytes, number, wordAt, word-in, field, length-field, bytes-drop, bytes-take}
+use Rattle.fields.specs.Answer.{Answer, accepted, refused, refused-inv, next-inv}
+use Rattle.fields.specs.Reader.{Reader, stepAt, toEnd}
+use Rattle.fields.specs.Exact.{forth-toEnd}
+use Rattle.fields.specs.At.{bytes-short, bytes-at, num-short, num-at, step-none, step-fault, step-read, step-end, step-refused, Turn}
+use Rattle.gdb_format.specs.Trace.{Block, Frame, dataOf, putBlock, putData}
+use Rattle.gdb_format.specs.Decode.{block, blocks, frameHead, frame}
+use Rattle.gdb_format.specs.ExactBlock.{exact-block, shorter-block}
+use Rattle.gdb_format.specs.ExactFrame.{exact-head, takes-head}
+use Rattle.gdb_format.specs.declared.Format.{Format}
+use Rattle.gdb_read.specs.Steps.{Row, headSeen, frameSeen, blocksFill}
+
+-- ---- the head
+
+module _ (f : Format) (s : List ℕ) (at : ℕ) (h : at < length s) where
+  pub head-none : length s - at < 6 → refused shortHead ≡ stepAt headSeen (frameHead f) s at
+  unfolding frameHead
+  head-none l =
+      sym (step-fault headSeen (frameHead f) s at shortHead h
+      (by-cases (decLe 2 (length s - at)) (λ k. rw (num-at s at (f .order) 2 shortHead (omega arith) k, num-short s (at + 2) (f .order) 4 shortHead (omega arith)))
+      (λ k. rw (num-short s at (f .order) 2 shortHead (lt-of-not-le k)))))
+
+  module _ (l : 6 ≤ length s - at) (n k : ℕ) (e : n ≡ wordAt (f .order) 2 s at) (g : k ≡ wordAt (f .order) 4 s (at + 2)) where
+    number-is : n ≡ number (f .order) (take 2 (drop at s))
+    number-is = e ∙ word-in (f .order) 2 s at (omega arith)
+
+    size-is : k ≡ number (f .order) (take 4 (drop (at + 2) s))
+    size-is = g ∙ word-in (f .order) 4 s (at + 2) (omega arith)
+
+    pub head-over : length s - (at + 6) < k → refused dataPastFile ≡ stepAt headSeen (frameHead f) s at
+    unfolding frameHead
+    head-over v =
+        let i : at + 2 + 4 ≡ at + 6 = omega arith in
+        sym (step-fault headSeen (frameHead f) s at dataPastFile h
+        (rw (num-at s at (f .order) 2 shortHead (omega arith) (omega arith), num-at s (at + 2) (f .order) 4 shortHead (omega arith) (omega arith), i, ← size-is, bytes-short s (at + 6) k dataPastFile v)))
+
+    head-body : k ≤ length s - (at + 6) → frameHead f (drop at s) ≡ accepted ((n, take k (drop (at + 6) s)), drop (at + 6 + k) s)
+    unfolding frameHead
+    head-body v =
+        let i : at + 2 + 4 ≡ at + 6 = omega arith in
+        rw (
+          num-at s at (f .order) 2 shortHead (omega arith) (omega arith),
+          num-at s (at + 2) (f .order) 4 shortHead (omega arith) (omega arith),
+          i,
+          ← size-is,
+          ← number-is,
+          bytes-at s (at + 6) k dataPastFile (omega arith) v,
+        )
+
+    pub head-whole : k ≤ length s - (at + 6) → accepted (some (record { tracepoint = n; place = at + 6; size = k }, at + 6 + k)) ≡ stepAt headSeen (frameHead f) s at
+    head-whole v =
+        sym (step-read headSeen (frameHead f) s at (n, take k (drop (at + 6) s)) (at + 6 + k) h (omega arith) (head-body v)
+        ∙ rw (length-part s (at + 6) k (omega arith)))
+
+-- ---- from the head to the frame
+
+module _ (f : Format) (size : Option ℕ) (s : List ℕ) (at : ℕ) where
+  pub frame-end : accepted none ≡ stepAt headSeen (frameHead f) s at → accepted none ≡ stepAt (frameSeen f) (frame f size) s at
+  frame-end e = sym (step-none (frameSeen f) (frame f size) s at (step-end headSeen (frameHead f) (takes-head f) s at (sym e)))
+
+  pub frame-fault : (n : ℕ) → refused n ≡ stepAt headSeen (frameHead f) s at → refused n ≡ stepAt (frameSeen f) (frame f size) s at
+  unfolding frame
+  frame-fault n e =
+      let q = step-refused headSeen (frameHead f) (takes-head f) s at n (sym e) in
+      sym (step-fault (frameSeen f) (frame f size) s at n (q .0) (rw (q .1)))
+
+  module _ (row : Row) (m : ℕ) (t : Turn headSeen (frameHead f) s at row m) (b : Bytes s) where
+    -- the bytes from the head on: its fields, the data, and the rest
+    laid-out : (field (f .order) 2 (t .element .0) ++ field (f .order) 4 (length (t .element .1))) ++ (t .element .1 ++ drop m s) ≡ drop at s
+    laid-out =
+        let h = t .element in
+        append-assoc (field (f .order) 2 (h .0)) (field (f .order) 4 (length (h .1))) (h .1 ++ drop m s)
+        ∙ ap (λ l. field (f .order) 2 (h .0) ++ l) (sym (append-assoc (field (f .order) 4 (length (h .1))) (h .1) (drop m s)))
+        ∙ sym (append-assoc (field (f .order) 2 (h .0)) (field (f .order) 4 (length (h .1)) ++ h .1) (drop m s))
+        ∙ ((exact-head f) .forth (drop at s) h (drop m s) (bytes-drop at s b) (t .read)) .1
+
+    head-length : length (field (f .order) 2 (t .element .0) ++ field (f .order) 4 (length (t .element .1))) ≡ 6
+    head-length =
+        omega (
+          arith,
+          length-append (field (f .order) 2 (t .element .0)) (field (f .order) 4 (length (t .element .1))),
+          length-field (f .order) 2 (t .element .0),
+          length-field (f .order) 4 (length (t .element .1)),
+        )
+
+    place-is : row .place ≡ at + 6
+    place-is = ap (λ (r : Row). r .place) (sym (t .shown))
+
+    data-there : drop (row .place) (take m s) ≡ t .element .1
+    data-there =
+        let d = t .element .1 in
+        let a : List ℕ = field (f .order) 2 (t .element .0) ++ field (f .order) 4 (length d) in
+        let n : m ≡ at + 6 + length d = omega (arith, part-lengths s at a d (drop m s) laid-out, head-length, length-drop m s, t .within, t .later) in
+        rw (place-is, n) (part-front s (at + 6) (length d) (omega (arith, n, t .within)) ∙ rw head-length at (part-there s at a d (drop m s) laid-out))
+
+    blocks-there : blocksFill f size (drop (row .place) (take m s)) ≡ blocksFill f size (t .element .1)
+    blocks-there = ap (blocksFill f size) data-there
+
+    pub frame-refused : (n : ℕ) → refused n ≡ blocksFill f size (drop (row .place) (take m s)) → refused n ≡ stepAt (frameSeen f) (frame f size) s at
+    unfolding frame blocks
+    frame-refused n e =
+        sym (step-fault (frameSeen f) (frame f size) s at n (omega (arith, t .later, t .within))
+        (rw (t .read, refused-inv n (toEnd (block f size) (t .element .1)) (λ bs. tt {0}) (e ∙ blocks-there))))
+
+    frame-read : (bs : List Block) → toEnd (block f size) (t .element .1) ≡ accepted bs
+        → frame f size (drop at s) ≡ accepted (record { tracepoint = t .element .0; blocks = bs }, drop m s)
+    unfolding frame blocks
+    frame-read bs e = rw (t .read, e)
+
+    data-bytes : Bytes (t .element .1)
+    data-bytes = rw data-there at (bytes-drop (row .place) (take m s) (bytes-take m s b))
+
+    pub frame-sound : accepted tt ≡ blocksFill f size (drop (row .place) (take m s)) → accepted (some (row, m)) ≡ stepAt (frameSeen f) (frame f size) s at
+    frame-sound e =
+        let q = next-inv (toEnd (block f size) (t .element .1)) (λ bs. accepted (tt {0})) (sym (e ∙ blocks-there)) in
+        let r : Frame = record { tracepoint = t .element .0; blocks = q .0 } in
+        let w : dataOf f r ≡ t .element .1 = (forth-toEnd (exact-block f size) (shorter-block f size) (t .element .1) (q .0) data-bytes (q .1)) .1 in
+        sym (step-read (frameSeen f) (frame f size) s at r m (omega (arith, t .later, t .within)) (t .within) (frame-read (q .0) (q .1))
+        ∙ ap (λ z. accepted (some (z, m))) (ap (λ d. headSeen at (t .element .0, d)) w ∙ t .shown))

@@ -1,0 +1,55 @@
+-- `gdb_read::blocks_from` meets its contract. The loop's invariant: what is left is filled just where the whole is.
+-- Assumes nothing.
+use mathlib.Core.Path.{_≡_, refl, sym, ap, _∙_}
+use Prim.Native.Nat.{_-_}
+use lib.ListN.{length, drop}
+use Rattle.gdb_format.specs.Opening.{sizeIn}
+use Rattle.gdb_read.specs.Steps.{blockMeaning, blockIn, blocksFill}
+use Rattle.gdb_read.proofs.Walks.{fill-end, fill-refused, fill-turn}
+use borrow.Author.Needs.{needs}
+use native.Mathlib.Omega.{arith}
+use Rattle.gdb_read.proofs.blocks_from.Statement.{statement}
+use Rattle.gdb_read.proofs.blocks_from.Tie as tie
+
+abbrev Inv-loop : tie.InvT-loop
+Inv-loop format size d from at₀ at = blocksFill format (sizeIn size) (drop at d) ≡ blocksFill format (sizeIn size) (drop from d)
+
+abbrev μ-loop : tie.MeasureT-loop
+μ-loop format size d from at₀ at = length d - at
+
+loop-holds : tie.Need-loop-holds Inv-loop μ-loop
+loop-holds c = refl
+
+returns : tie.Need-returns Inv-loop μ-loop
+returns c =
+    let a = c .before .before .before .before .before .args in
+    let l = c .before .before .before .loop in
+    fill-end (a .format) (sizeIn (a .size)) (a .d .now) (l .at) (ap blockMeaning (sym (c .enum-told .given .1)) ∙ c .before .before .block-at .ensures) ∙ l .inv
+
+returns-2 : tie.Need-returns-2 Inv-loop μ-loop
+returns-2 c =
+    let a = c .before .before .before .before .before .before .args in
+    let l = c .before .before .before .before .loop in
+    let g = c .before .n .given in
+    fill-refused (a .format) (sizeIn (a .size)) (a .d .now) (l .at) (g .0 .0) (ap blockMeaning (sym (g .1)) ∙ c .before .before .before .block-at .ensures) ∙ l .inv
+
+loop-less : tie.Need-loop-less Inv-loop μ-loop
+loop-less c =
+    let a = c .before .before .before .before .before .before .args in
+    let l = c .before .before .before .before .loop in
+    let g = c .before .next .given in
+    let t = fill-turn (a .format) (sizeIn (a .size)) (a .d .now) (l .at) (blockIn (g .0 .0)) (g .0 .1 .0) (ap blockMeaning (sym (g .1)) ∙ c .before .before .before .block-at .ensures) in
+    omega arith
+
+loop-again : tie.Need-loop-again Inv-loop μ-loop
+loop-again c =
+    let a = c .before .before .before .before .before .before .args in
+    let l = c .before .before .before .before .loop in
+    let g = c .before .next .given in
+    let t = fill-turn (a .format) (sizeIn (a .size)) (a .d .now) (l .at) (blockIn (g .0 .0)) (g .0 .1 .0) (ap blockMeaning (sym (g .1)) ∙ c .before .before .before .block-at .ensures) in
+    t .2 ∙ l .inv
+
+pub blocks-from-spec : {M : Type 1} → statement M
+blocks-from-spec =
+    tie.close
+    (tie.spec Inv-loop μ-loop loop-holds (λ c κs. search needs) (λ c. search needs) returns (λ c. search needs) returns-2 (λ c. search needs) loop-less loop-again)

@@ -1,0 +1,71 @@
+-- The numbers returned on refusal, as document 01's table has them.
+-- Assumes nothing: these are definitions.
+use Prim.Native.Nat.{ℕ}
+
+-- a file, or a join's result, is longer than 67,108,864 bytes
+abbrev pub tooLong : ℕ
+tooLong = 1
+
+-- an argument is wrong: the byte order, or a selection
+abbrev pub badArgument : ℕ
+badArgument = 2
+
+-- the head differs or is cut short
+abbrev pub badHead : ℕ
+badHead = 3
+
+-- the description has no empty line
+abbrev pub noEmptyLine : ℕ
+noEmptyLine = 4
+
+-- an ended `R ` line breaks its form, or a second `R ` or `status ` line
+abbrev pub badLine : ℕ
+badLine = 5
+
+-- 1 to 5 bytes remain where a frame head should start
+abbrev pub shortHead : ℕ
+shortHead = 6
+
+-- a frame's data runs past the file
+abbrev pub dataPastFile : ℕ
+dataPastFile = 7
+
+-- a block letter other than R, M, V
+abbrev pub badLetter : ℕ
+badLetter = 8
+
+-- a block runs past its frame's data
+abbrev pub blockPastData : ℕ
+blockPastData = 9
+
+-- an `R` block where no R line was given
+abbrev pub noRegisterSize : ℕ
+noRegisterSize = 10
+
+-- the result is longer than the output, or there are more frames than records
+abbrev pub noRoom : ℕ
+noRoom = 11
+
+-- no such line, frame, block, CPU, register block or variable; no covering block
+abbrev pub notFound : ℕ
+notFound = 12
+
+-- the openings to be joined differ
+abbrev pub openingsDiffer : ℕ
+openingsDiffer = 13
+
+-- a trace.dat field or named piece runs past the file
+abbrev pub fieldPastFile : ℕ
+fieldPastFile = 14
+
+-- a trace.dat fixed string, flag, long size or page size is wrong
+abbrev pub badConstant : ℕ
+badConstant = 15
+
+-- CPU count above 1,024; a CPU range misaligned, before the header's end or past the file
+abbrev pub badRange : ℕ
+badRange = 16
+
+-- two CPU ranges overlap
+abbrev pub rangesOverlap : ℕ
+rangesOverlap = 17

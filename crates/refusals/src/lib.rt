@@ -1,0 +1,36 @@
+// The numbers returned on refusal, as document 01's table has them. specs/Refusal.antt gives the same names.
+
+// A file, or a join's result, is longer than 67,108,864 bytes.
+pub const TOO_LONG: u8 = 1;
+// An argument is wrong: the byte order, or a selection.
+pub const BAD_ARGUMENT: u8 = 2;
+// The head differs or is cut short.
+pub const BAD_HEAD: u8 = 3;
+// The description has no empty line.
+pub const NO_EMPTY_LINE: u8 = 4;
+// An ended `R ` line breaks its form, or a second `R ` or `status ` line.
+pub const BAD_LINE: u8 = 5;
+// 1 to 5 bytes remain where a frame head should start.
+pub const SHORT_HEAD: u8 = 6;
+// A frame's data runs past the file.
+pub const DATA_PAST_FILE: u8 = 7;
+// A block letter other than R, M, V.
+pub const BAD_LETTER: u8 = 8;
+// A block runs past its frame's data.
+pub const BLOCK_PAST_DATA: u8 = 9;
+// An `R` block where no R line was given.
+pub const NO_REGISTER_SIZE: u8 = 10;
+// The result is longer than the output, or there are more frames than records.
+pub const NO_ROOM: u8 = 11;
+// No such line, frame, block, CPU, register block or variable; no covering block.
+pub const NOT_FOUND: u8 = 12;
+// The openings to be joined differ.
+pub const OPENINGS_DIFFER: u8 = 13;
+// A trace.dat field or named piece runs past the file.
+pub const FIELD_PAST_FILE: u8 = 14;
+// A trace.dat fixed string, flag, long size or page size is wrong.
+pub const BAD_CONSTANT: u8 = 15;
+// CPU count above 1,024; a CPU range misaligned, before the header's end or past the file.
+pub const BAD_RANGE: u8 = 16;
+// Two CPU ranges overlap.
+pub const RANGES_OVERLAP: u8 = 17;
