@@ -4,13 +4,13 @@ use mathlib.Core.Path.{_≡_, refl, sym, ap, _∙_}
 use mathlib.Core.Option.{Option}
 use Prim.Native.Nat.{ℕ, _^_, _<_}
 use native.Mathlib.Omega.{arith}
-use mathlib.Core.List.{List, [], _∷_, _++_, append-nil, map}
+use mathlib.Core.List.{List, [], _++_, append-nil}
 use lib.ListN.{length}
 use Rattle.refusals.specs.Refusal.{shortHead, dataPastFile}
 use Rattle.fields.specs.Lists.{flat, Each}
 use Rattle.fields.specs.Number.{Bytes, field, bytes-back}
-use Rattle.fields.specs.Answer.{Answer, accepted, next-inv, accepted-inj}
-use Rattle.fields.specs.Reader.{Reader, _>>=_, give, toEnd}
+use Rattle.fields.specs.Answer.{accepted, next-inv, accepted-inj}
+use Rattle.fields.specs.Reader.{Reader, _>>=_, give}
 use Rattle.fields.specs.Exact.{Back, Forth, Exact, exact-give, exact-bytes, exact-given, exact-then, exact-as, exact-num, back-toEnd, forth-toEnd, back-filling, forth-filling}
 use Rattle.fields.specs.Takes.{Shorter, Takes, shorter, takes-give, takes-bytes, takes-then, takes-num, takes-less, takes-filling}
 use Rattle.gdb_format.specs.Trace.{Block, Frame, dataOf, putBlock, putData, putFrame}

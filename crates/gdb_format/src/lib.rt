@@ -175,7 +175,7 @@ fn line_step(format: Format, seen: Seen, l: &[u8]) -> LineStep
 }
 
 // Where the line that starts at `from` ends: at its 0A, or where `s` does.
-fn line_end(s: &[u8], from: usize) -> usize
+pub fn line_end(s: &[u8], from: usize) -> usize
     ensures { λ r. ⌜ r ≡ from + length (lineOf (drop from (now (s .entry)))) ⌝ }
 {
     let mut at = from;

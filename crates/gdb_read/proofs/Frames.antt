@@ -1,22 +1,22 @@
 -- What a frame's step answers in each case that the code tells apart: first its head, then its blocks.
 -- Assumes nothing.
-use mathlib.Core.Path.{_≡_, refl, sym, ap, _∙_}
+use mathlib.Core.Path.{_≡_, sym, ap, _∙_}
 use mathlib.Core.Option.{Option, none, some}
 use Prim.Native.Nat.{ℕ, _+_, _-_, _<_, _≤_}
 use native.Mathlib.Nat.{lt-of-not-le}
 use native.Mathlib.Decide.{decLe}
 use native.Mathlib.Omega.{arith}
 use mathlib.Core.Logic.{by-cases}
-use mathlib.Core.List.{List, [], _∷_, _++_, append-assoc}
+use mathlib.Core.List.{List, _++_, append-assoc}
 use lib.ListN.{length, take, drop, length-append, length-drop}
 use Rattle.refusals.specs.Refusal.{shortHead, dataPastFile}
 use Rattle.fields.specs.Lists.{length-part, part-front, part-there, part-lengths}
 use Rattle.fields.specs.Number.{Bytes, number, wordAt, word-in, field, length-field, bytes-drop, bytes-take}
-use Rattle.fields.specs.Answer.{Answer, accepted, refused, refused-inv, next-inv}
-use Rattle.fields.specs.Reader.{Reader, stepAt, toEnd}
+use Rattle.fields.specs.Answer.{accepted, refused, refused-inv, next-inv}
+use Rattle.fields.specs.Reader.{stepAt, toEnd}
 use Rattle.fields.specs.Exact.{forth-toEnd}
 use Rattle.fields.specs.At.{bytes-short, bytes-at, num-short, num-at, step-none, step-fault, step-read, step-end, step-refused, Turn}
-use Rattle.gdb_format.specs.Trace.{Block, Frame, dataOf, putBlock, putData}
+use Rattle.gdb_format.specs.Trace.{Block, Frame, dataOf}
 use Rattle.gdb_format.specs.Decode.{block, blocks, frameHead, frame}
 use Rattle.gdb_format.specs.ExactBlock.{exact-block, shorter-block}
 use Rattle.gdb_format.specs.ExactFrame.{exact-head, takes-head}

@@ -1,6 +1,6 @@
 -- A turn of a walk to the end: over a frame's blocks, and over a file's frames, which are counted.
 -- Assumes nothing.
-use mathlib.Core.Path.{_≡_, refl, sym, ap, _∙_}
+use mathlib.Core.Path.{_≡_, refl, sym, ap}
 use mathlib.Core.Option.{Option, none, some}
 use Prim.Native.Nat.{ℕ, _+_, _-_, _<_, _≤_}
 use native.Mathlib.Nat.{zero-add, add-zero}
@@ -9,13 +9,13 @@ use mathlib.Core.List.{List, _∷_}
 use lib.ListN.{length, drop}
 use Rattle.fields.specs.Answer.{Answer, accepted, refused, next}
 use Rattle.fields.specs.Reader.{toEnd, stepAt}
-use Rattle.fields.specs.At.{walk-end, walk-refused, walk-more, Turn}
+use Rattle.fields.specs.At.{walk-end, walk-refused, walk-more}
 use Rattle.gdb_format.specs.Trace.{Block, Frame}
 use Rattle.gdb_format.specs.Decode.{block, frame, frames}
 use Rattle.gdb_format.specs.ExactBlock.{takes-block}
 use Rattle.gdb_format.specs.ExactFrame.{takes-frame}
 use Rattle.gdb_format.specs.declared.Format.{Format}
-use Rattle.gdb_read.specs.Steps.{Carried, blockSeen, blocksFill, Row, frameSeen, framesCounted}
+use Rattle.gdb_read.specs.Steps.{Carried, blockSeen, blocksFill, Row, frameSeen}
 
 -- ---- blocks
 

@@ -1,9 +1,8 @@
 -- A whole file's reading from its parts' answers.
 -- Assumes nothing.
-use mathlib.Core.Path.{_≡_, refl, sym, ap, ap₂, _∙_}
+use mathlib.Core.Path.{_≡_, refl, sym, ap, _∙_}
 use mathlib.Core.Option.{Option}
 use Prim.Native.Nat.{ℕ, _<_, _≤_}
-use native.Mathlib.Omega.{arith}
 use mathlib.Core.List.{List, _++_}
 use lib.ListN.{length, drop}
 use lib.Seq.{drop-at}
@@ -12,7 +11,7 @@ use Rattle.refusals.specs.Refusal.{tooLong}
 use Rattle.fields.specs.Number.{Bytes}
 use Rattle.fields.specs.Answer.{Answer, accepted, refused, next, refused-inv, next-inv, accepted-one, accepted-inj}
 use Rattle.gdb_format.specs.Settings.{settingsOf}
-use Rattle.gdb_format.specs.Trace.{Frame, Trace, traceOf, opening}
+use Rattle.gdb_format.specs.Trace.{Trace, traceOf, opening}
 use Rattle.gdb_format.specs.Lines.{registerSize}
 use Rattle.gdb_format.specs.Layout.{limit}
 use Rattle.gdb_format.specs.Decode.{openingLines, frames, trace, decode, read}
@@ -20,7 +19,7 @@ use Rattle.gdb_format.specs.ExactLines.{exact-opening}
 use Rattle.gdb_format.specs.Opening.{openingSeen}
 use Rattle.gdb_format.specs.declared.Settings.{Settings}
 use Rattle.gdb_format.specs.declared.Format.{Format}
-use Rattle.gdb_read.specs.Steps.{framesCounted, Summary, summaryIn, readSeen}
+use Rattle.gdb_read.specs.Steps.{framesCounted, summaryIn, readSeen}
 
 pub too-long : (f : Format) (s : List ℕ) → limit < length s → refused tooLong ≡ summaryIn f (decode f s)
 unfolding decode

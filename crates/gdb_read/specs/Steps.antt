@@ -25,6 +25,7 @@ use Rattle.gdb_read.specs.declared.FrameStep.{FrameStep}
 use Rattle.gdb_read.specs.declared.FrameStep.the-variants as framestep
 use Rattle.gdb_read.specs.declared.Count.{Count}
 use Rattle.gdb_read.specs.declared.Count.the-variants as count
+use Rattle.gdb_read.specs.declared.Opened.{Opened}
 use Rattle.gdb_read.specs.declared.Reading.{Reading}
 use Rattle.gdb_read.specs.declared.Reading.the-variants as reading
 
@@ -122,7 +123,10 @@ summaryIn f x = next x (λ t. accepted (summaryOf f t))
 abbrev pub readSeen : Answer (Format × Trace) → Answer Summary
 readSeen x = next x (λ r. accepted (summaryOf (r .0) (r .1)))
 
--- what `Reading` says
+-- what `Opened` and `Reading` say
+abbrev pub summarySaid : Opened → Summary
+summarySaid o = record { format = o .format; size = sizeIn (o .size); start = o .start; frames = o .frames }
+
 abbrev pub readingMeaning : Reading → Answer Summary
-readingMeaning (reading.Accepted o) = accepted (record { format = o .format; size = sizeIn (o .size); start = o .start; frames = o .frames })
+readingMeaning (reading.Accepted o) = accepted (summarySaid o)
 readingMeaning (reading.Refused n) = refused n

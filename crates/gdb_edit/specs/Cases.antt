@@ -1,0 +1,108 @@
+-- Document 01's cases marked (P), as one table, and the one statement about it.
+-- Assumes nothing.
+use mathlib.Core.Path.{_≡_, refl}
+use mathlib.Core.Bool.{true}
+use Prim.Native.Nat.{ℕ, _-_, _^_}
+use mathlib.Core.List.{List, [], _∷_, _++_}
+use lib.ListN.{take}
+use lib.IntN.{ℤ, negsuc}
+use Rattle.refusals.specs.Refusal.{badHead, noEmptyLine, shortHead, badLetter, blockPastData, noRegisterSize, notFound}
+use Rattle.fields.specs.Lists.{Each}
+use Rattle.fields.specs.Answer.{Answer, accepted, refused, next}
+use Rattle.gdb_format.specs.Trace.{head, opening, encode}
+use Rattle.gdb_format.specs.Decode.{read}
+use Rattle.gdb_format.specs.declared.Settings.{Settings}
+use Rattle.gdb_read.specs.Steps.{Row}
+use Rattle.gdb_frames.specs.Places.{part}
+use Rattle.gdb_frames.specs.Questions.{asked, table}
+use Rattle.gdb_blocks.specs.Search.{registersAt, memoryAt, variableAt}
+use Rattle.gdb_edit.specs.Cut.{Selection, cutFile}
+
+pub data Question : Type 0 where
+  frames : Question
+  registers : ℕ → Question  -- of a frame
+  memory : ℕ → ℕ → Question  -- in a frame, at an address
+  variable : ℕ → ℕ → Question  -- in a frame, by number
+  cut : Selection → Question
+
+pub data Reply : Type 0 where
+  rows : List Row → Reply
+  bytes : List ℕ → Reply
+  value : ℤ → Reply
+
+abbrev ofPart : List ℕ → Answer (ℕ × ℕ) → Answer Reply
+ofPart b a = next a (λ r. accepted (bytes (part b (accepted r))))
+
+abbrev pub about : Settings → List ℕ → Question → Answer Reply
+about s b frames = asked s b (λ f t. accepted (rows (table f t)))
+about s b (registers n) = ofPart b (asked s b (registersAt n))
+about s b (memory n a) = ofPart b (asked s b (memoryAt a n))
+about s b (variable n v) = next (asked s b (variableAt v n)) (λ z. accepted (value z))
+about s b (cut sel) = next (cutFile s sel b) (λ c. accepted (bytes c))
+
+pub record Case : Type 0 where
+  pub settings : Settings
+  pub file : List ℕ
+  pub question : Question
+  pub reply : Answer Reply
+
+abbrev pub Holds : Case → Type 0
+Holds c = about (c .settings) (c .file) (c .question) ≡ c .reply
+
+-- ---- the table
+
+abbrev little : List ℕ → Question → Answer Reply → Case
+little b q r = record { settings = record { order = 0 }; file = b; question = q; reply = r }
+
+abbrev big : List ℕ → Question → Answer Reply → Case
+big b q r = record { settings = record { order = 1 }; file = b; question = q; reply = r }
+
+abbrev row : ℕ → ℕ → ℕ → Row
+row n at k = record { tracepoint = n; place = at; size = k }
+
+-- H 0A, and then the frames
+abbrev bare : List ℕ → List ℕ
+bare b = head ++ 0x0A ∷ b
+
+-- frames of size 0 with the numbers 1 and 2
+abbrev empty1 : List ℕ
+empty1 = 1 ∷ 0 ∷ 0 ∷ 0 ∷ 0 ∷ 0 ∷ []
+
+abbrev empty2 : List ℕ
+empty2 = 2 ∷ 0 ∷ 0 ∷ 0 ∷ 0 ∷ 0 ∷ []
+
+-- `R 2`
+abbrev two : List ℕ → List ℕ
+two b = head ++ 0x52 ∷ 0x20 ∷ 0x32 ∷ 0x0A ∷ 0x0A ∷ b
+
+-- `M` at address 2 ^ 64 - 1, bytes 11 22
+abbrev top : List ℕ
+top = bare (1 ∷ 0 ∷ 13 ∷ 0 ∷ 0 ∷ 0 ∷ 0x4D ∷ 0xFF ∷ 0xFF ∷ 0xFF ∷ 0xFF ∷ 0xFF ∷ 0xFF ∷ 0xFF ∷ 0xFF ∷ 2 ∷ 0 ∷ 0x11 ∷ 0x22 ∷ [])
+
+-- `V` number 1, value bytes all FF
+abbrev minus : List ℕ
+minus = bare (1 ∷ 0 ∷ 13 ∷ 0 ∷ 0 ∷ 0 ∷ 0x56 ∷ 1 ∷ 0 ∷ 0 ∷ 0 ∷ 0xFF ∷ 0xFF ∷ 0xFF ∷ 0xFF ∷ 0xFF ∷ 0xFF ∷ 0xFF ∷ 0xFF ∷ [])
+
+abbrev pub cases : List Case
+cases =
+    little [] frames (refused badHead)
+    ∷ little head frames (refused noEmptyLine)
+    ∷ little (bare []) frames (accepted (rows []))
+    ∷ little (bare empty1) frames (accepted (rows (row 1 15 0 ∷ [])))
+    ∷ big (bare empty1) frames (accepted (rows (row 256 15 0 ∷ [])))
+    ∷ little (bare (take 5 empty1)) frames (refused shortHead)
+    ∷ little (bare (1 ∷ 0 ∷ 1 ∷ 0 ∷ 0 ∷ 0 ∷ 0x52 ∷ [])) frames (refused noRegisterSize)
+    ∷ little (bare (1 ∷ 0 ∷ 1 ∷ 0 ∷ 0 ∷ 0 ∷ 0 ∷ [])) frames (refused badLetter)
+    ∷ little (two (1 ∷ 0 ∷ 3 ∷ 0 ∷ 0 ∷ 0 ∷ 0x52 ∷ 0xAA ∷ 0xBB ∷ [])) (registers 0) (accepted (bytes (0xAA ∷ 0xBB ∷ [])))
+    ∷ little (two (1 ∷ 0 ∷ 2 ∷ 0 ∷ 0 ∷ 0 ∷ 0x52 ∷ 0xAA ∷ [])) (registers 0) (refused blockPastData)
+    ∷ little top (memory 0 (2 ^ 64 - 1)) (accepted (bytes (0x11 ∷ 0x22 ∷ [])))
+    ∷ little top (memory 0 0) (accepted (bytes (0x22 ∷ [])))
+    ∷ little top (memory 0 1) (refused notFound)
+    ∷ little minus (variable 0 1) (accepted (value (negsuc 0)))
+    ∷ little (bare (empty1 ++ empty2 ++ empty1)) (cut (record { keep = true; ranges = (1, 1) ∷ [] })) (accepted (bytes (bare (empty1 ++ empty1))))
+    ∷ []
+
+pub cases-hold : Each Holds cases
+unfolding read opening encode
+cases-hold =
+    (refl, (refl, (refl, (refl, (refl, (refl, (refl, (refl, (refl, (refl, (refl, (refl, (refl, (refl, (refl, tt)))))))))))))))

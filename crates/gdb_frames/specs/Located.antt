@@ -1,0 +1,148 @@
+-- Frame n and line j of an accepted file, where the walk finds them.
+-- Assumes nothing.
+use mathlib.Core.Path.{_≡_, refl, sym, ap, _∙_}
+use mathlib.Core.Option.{Option, none, some}
+use Prim.Native.Nat.{ℕ, zero, suc, _+_, _<_}
+use native.Mathlib.Omega.{arith}
+use mathlib.Core.List.{List, [], _∷_, _++_}
+use lib.ListN.{length, length-append}
+use borrow.Author.Tests.{le-leb}
+use Rattle.refusals.specs.Refusal.{notFound}
+use Rattle.fields.specs.Lists.{flat, Each, clash}
+use Rattle.fields.specs.Number.{Bytes, field, length-field}
+use Rattle.fields.specs.Answer.{Answer, accepted, refused, next, never, next-inv, refused-inv, accepted-one, accepted-inj, next-assoc}
+use Rattle.gdb_format.specs.Trace.{Frame, Trace, opening, putFrame, dataOf}
+use Rattle.gdb_format.specs.Lines.{registerSize, kindOf}
+use Rattle.gdb_format.specs.Layout.{LinesFit, FrameFits}
+use Rattle.gdb_format.specs.Decode.{frameHead, read}
+use Rattle.gdb_format.specs.Opening.{sizeIn}
+use Rattle.gdb_format.specs.ExactFrame.{exact-head}
+use Rattle.gdb_format.specs.declared.Settings.{Settings}
+use Rattle.gdb_format.specs.declared.Format.{Format}
+use Rattle.gdb_read.specs.Steps.{Row, headSeen, frameSeen, headMeaning, Summary, readSeen}
+use Rattle.gdb_frames.specs.Places.{linesAt, framesAt, nth, partNamed}
+use Rattle.gdb_frames.specs.Questions.{asked, frameRow, dataIn, frameData, lineAt, linePlace}
+use Rattle.gdb_frames.specs.Nth.{nthHead, shownNth, nth-placed, nthLine, IsLine, nth-line}
+use Rattle.gdb_frames.specs.declared.LocatedAnswer.{LocatedAnswer}
+use Rattle.gdb_frames.specs.declared.LocatedAnswer.the-variants as located
+use Rattle.gdb_frames.specs.File.{File, frames-behind, start-within, lines-behind, told}
+use Rattle.gdb_frames.specs.PlaceLaws.{line-within, line-is}
+
+-- frame n with what is needed to read its blocks: the format, the register size, and what the frame shows
+abbrev pub rowIn : Format → Trace → Row → Format × (Option ℕ × Row)
+rowIn f t v = (f, (registerSize f (t .lines), v))
+
+abbrev pub frameLocated : ℕ → Format → Trace → Answer (Format × (Option ℕ × Row))
+frameLocated n f t = next (frameRow n f t) (λ v. accepted (rowIn f t v))
+
+-- what `LocatedAnswer` says
+abbrev pub locatedAnswer : LocatedAnswer → Answer (Format × (Option ℕ × Row))
+locatedAnswer (located.Frame l) = accepted (l .format, (sizeIn (l .size), headMeaning (l .head)))
+locatedAnswer (located.Refused n) = refused n
+
+-- ---- frame n
+
+frame-fill : (f : Format) (r : Frame) → 0 < length (putFrame f r)
+frame-fill f r =
+    omega (arith, length-append (field (f .order) 2 (r .tracepoint)) (field (f .order) 4 (length (dataOf f r)) ++ dataOf f r), length-field (f .order) 2 (r .tracepoint))
+
+abbrev headIn : Format → Frame → ℕ × List ℕ
+headIn f r = (r .tracepoint, dataOf f r)
+
+pub head-nth : (f : Format) (b : List ℕ) (t : Trace) (n : ℕ) → File f b t
+    → nthHead f b n (length (opening (t .lines))) ≡ shownNth (frameSeen f) (putFrame f) (nth (framesAt f t) n)
+head-nth f b t n i =
+    nth-placed headSeen (frameHead f) (headIn f) (FrameFits f (registerSize f (t .lines))) (putFrame f)
+    (λ r rest g. (exact-head f) .back (headIn f r) rest (g .0, g .1)) (frame-fill f) b
+    n (t .frames) (length (opening (t .lines))) (i .fits .frames-fit) (start-within f b t i) (frames-behind f b t i)
+
+nth-refused : {A : Type 0} (xs : List A) (n k : ℕ) → nth xs n ≡ refused k → k ≡ notFound
+nth-refused [] n k e = cc
+nth-refused (x ∷ xs) zero k e = never (sym e)
+nth-refused (x ∷ xs) (suc n) k e = nth-refused xs n k e
+
+module _ {A C : Type 0} (view : ℕ → A → C) (put : A → List ℕ) where
+  pub shown-none : (xs : List (ℕ × A)) (n : ℕ) → accepted none ≡ shownNth view put (nth xs n) → nth xs n ≡ refused notFound
+  shown-none xs n e = by (nth xs n) refl e
+    where
+      by : (x : Answer (ℕ × A)) → nth xs n ≡ x → accepted none ≡ shownNth view put x → x ≡ refused notFound
+      by (accepted r) q e = let z : _≡_ {A = Option (C × ℕ)} none (some (view (r .0) (r .1), r .0 + length (put (r .1)))) = accepted-one e in clash (cc)
+      by (refused k) q e = ap refused (nth-refused xs n k q)
+
+  pub shown-some : (v : C) (m : ℕ) (x : Answer (ℕ × A)) → accepted (some (v, m)) ≡ shownNth view put x
+      → (r : ℕ × A) × (x ≡ accepted r) × (v ≡ view (r .0) (r .1)) × (m ≡ r .0 + length (put (r .1)))
+  shown-some v m (accepted r) e = let q = same e in (r, refl, q .0, q .1)
+    where
+      same : {a c : C} {b d : ℕ} → _≡_ {A = Answer (Option (C × ℕ))} (accepted (some (a, b))) (accepted (some (c, d))) → (a ≡ c) × (b ≡ d)
+      same {a} {c} {b} {d} e = let q : _≡_ {A = C × ℕ} (a, b) (c, d) = cc in (ap (λ r. r .0) q, ap (λ r. r .1) q)
+  shown-some v m (refused k) e = let z : _≡_ {A = Option (C × ℕ)} (some (v, m)) none = accepted-one e in clash (cc)
+
+  pub shown-never : {X : Type 0} (k : ℕ) (x : Answer (ℕ × A)) → refused k ≡ shownNth view put x → X
+  shown-never k (accepted r) e = never e
+  shown-never k (refused n) e = never e
+
+pub located-row : (s : Settings) (b : List ℕ) (f : Format) (t : Trace) (n a : ℕ) (r : Frame) → read s b ≡ accepted (f, t) → nth (framesAt f t) n ≡ accepted (a, r)
+    → accepted (f, (registerSize f (t .lines), frameSeen f a r)) ≡ asked s b (frameLocated n)
+located-row s b f t n a r e g = rw (e, g)
+
+module _ (s : Settings) (b : List ℕ) (h : Bytes b) (m : Summary) (e : accepted m ≡ readSeen (read s b)) (n : ℕ) where
+  pub located-some : (v : Row) (k : ℕ) → accepted (some (v, k)) ≡ nthHead (m .format) b n (m .start) → accepted (m .format, (m .size, v)) ≡ asked s b (frameLocated n)
+  located-some v k =
+      told s b h m e (λ m. accepted (some (v, k)) ≡ nthHead (m .format) b n (m .start) → accepted (m .format, (m .size, v)) ≡ asked s b (frameLocated n))
+      (λ f t r i g.
+      let q = shown-some (frameSeen f) (putFrame f) v k (nth (framesAt f t) n) (g ∙ head-nth f b t n i) in
+      ap (λ z. accepted (f, (registerSize f (t .lines), z))) (q .2) ∙ located-row s b f t n (q .0 .0) (q .0 .1) r (q .1))
+
+  pub located-none : accepted none ≡ nthHead (m .format) b n (m .start) → refused notFound ≡ asked s b (frameLocated n)
+  located-none =
+      told s b h m e (λ m. accepted none ≡ nthHead (m .format) b n (m .start) → refused notFound ≡ asked s b (frameLocated n))
+      (λ f t r i g. rw (r, shown-none (frameSeen f) (putFrame f) (framesAt f t) n (g ∙ head-nth f b t n i)))
+
+  pub located-never : {X : Type 0} (k : ℕ) → refused k ≡ nthHead (m .format) b n (m .start) → X
+  located-never {X} k =
+      told s b h m e (λ m. refused k ≡ nthHead (m .format) b n (m .start) → X)
+      (λ f t r i g. shown-never (frameSeen f) (putFrame f) k (nth (framesAt f t) n) (g ∙ head-nth f b t n i))
+
+-- the data of frame n are what its row says
+frame-data-in : (x : Answer (Format × Trace)) (n : ℕ)
+    → next (next x (λ r. frameLocated n (r .0) (r .1))) (λ l. accepted (dataIn (l .1 .1))) ≡ next x (λ r. frameData n (r .0) (r .1))
+frame-data-in (refused k) n = refl
+frame-data-in (accepted r) n = by (frameRow n (r .0) (r .1))
+  where
+    by : (y : Answer Row) → next (next y (λ v. accepted (rowIn (r .0) (r .1) v))) (λ l. accepted (dataIn (l .1 .1))) ≡ next y (λ v. accepted (dataIn v))
+    by (accepted v) = refl
+    by (refused k) = refl
+
+pub frame-data-of : (s : Settings) (b : List ℕ) (n : ℕ) → next (asked s b (frameLocated n)) (λ l. accepted (dataIn (l .1 .1))) ≡ asked s b (frameData n)
+frame-data-of s b n = frame-data-in (read s b) n
+
+-- ---- line j
+
+lines-each : (f : Format) (before ls : List (List ℕ)) → LinesFit f before ls → Each IsLine ls
+lines-each f before [] h = tt
+lines-each f before (l ∷ ls) h = ((h .0, h .1), lines-each f (before ++ l ∷ []) ls (h .3))
+
+pub line-nth : (f : Format) (b : List ℕ) (t : Trace) (j : ℕ) → File f b t
+    → nthLine b j 8 ≡ next (nth (linesAt t) j) (λ r. accepted (r .0, length (r .1)))
+line-nth f b t j i = nth-line b (flat (putFrame f) (t .frames)) j (t .lines) 8 (lines-each f [] (t .lines) (i .fits .lines-fit)) (lines-behind f b t i)
+
+module _ (s : Settings) (b : List ℕ) (h : Bytes b) (m : Summary) (e : accepted m ≡ readSeen (read s b)) (j : ℕ) where
+  pub line-missing : (k : ℕ) → refused k ≡ nthLine b j 8 → refused k ≡ asked s b (lineAt j)
+  line-missing k g =
+      told s b h m e (λ m. refused k ≡ asked s b (lineAt j))
+      (λ f t r i. rw (r, refused-inv k (nth (linesAt t) j) (λ r. (r .0, length (r .1))) (g ∙ line-nth f b t j i)))
+
+  pub line-found : (p n : ℕ) → accepted (p, n) ≡ nthLine b j 8 → accepted (kindOf (partNamed b (accepted (p, n))), (p, n)) ≡ asked s b (lineAt j)
+  line-found p n g =
+      told s b h m e (λ m. accepted (kindOf (partNamed b (accepted (p, n))), (p, n)) ≡ asked s b (lineAt j))
+      (λ f t r i.
+      let q = next-inv (nth (linesAt t) j) (λ r. accepted (r .0, length (r .1))) (sym (g ∙ line-nth f b t j i)) in
+      line-row f t (q .0 .0) (q .0 .1) p n r i (q .1) (accepted-inj (q .2)))
+    where
+      line-row : (f : Format) (t : Trace) (a : ℕ) (l : List ℕ) (p n : ℕ) → read s b ≡ accepted (f, t) → File f b t → nth (linesAt t) j ≡ accepted (a, l)
+          → (a ≡ p) × (length l ≡ n) → accepted (kindOf (partNamed b (accepted (p, n))), (p, n)) ≡ asked s b (lineAt j)
+      line-row f t a l p n r i g q =
+          rw (← q .0, ← q .1, le-leb (a + length l) (length b) (line-within f b t i j a l g), line-is f b t i j a l g, r, g)
+
+pub line-place-of : (s : Settings) (b : List ℕ) (j : ℕ) → next (asked s b (lineAt j)) (λ r. accepted (r .1)) ≡ asked s b (linePlace j)
+line-place-of s b j = next-assoc (read s b) (λ r. lineAt j (r .0) (r .1)) (λ r. accepted (r .1))

@@ -1,1 +1,0 @@
-// The questions about a GDB trace. Their definitions are in specs/Questions.antt.
