@@ -1,2 +1,11 @@
+pub mod Selection
 pub mod Cut
-pub mod Cases
+pub mod Output
+pub mod Kept
+pub mod Joined
+pub mod CutLaws
+pub mod JoinLaws
+pub mod Plan
+pub mod PlanLaws
+pub mod Standing
+pub mod Algebra

@@ -1,1 +1,226 @@
-// Cuts of GDB traces. Their definition is in specs/Cut.antt, and the table of document 01's cases in specs/Cases.antt.
+// Cutting and joining GDB traces into an output that the caller lends.
+ghost use mathlib.Core.Path.{_≡_};
+ghost use mathlib.Core.List.{_++_};
+ghost use Prim.Native.Nat.{_+_, _≤_};
+ghost use lib.ListN.{length, take, drop};
+ghost use Rattle.gdb_edit.specs.Selection.{inSome, selects, meaning, valid, against};
+ghost use Rattle.gdb_edit.specs.Cut.{cutOf, joinOf};
+ghost use Rattle.gdb_edit.specs.Output.{Ends};
+ghost use Rattle.gdb_edit.specs.Kept.{kept, Heads};
+ghost use Rattle.gdb_edit.specs.Joined.{pairMeaning, pairSeen};
+use gdb_format::Format;
+use gdb_format::Settings;
+use gdb_read::FrameStep;
+use gdb_read::Opened;
+use gdb_read::Reading;
+use refusals::BAD_ARGUMENT;
+use refusals::NO_ROOM;
+use refusals::OPENINGS_DIFFER;
+use refusals::TOO_LONG;
+
+// Tracepoint numbers from low to high, both among them.
+pub struct Range {
+    pub low: u16,
+    pub high: u16,
+}
+
+// The numbers in one of the first `count` ranges, or with `keep` false the others. The ranges behind are no part of it.
+pub struct Selection {
+    pub ranges: [Range; 8],
+    pub count: usize,
+    pub keep: bool,
+}
+
+pub enum EditAnswer {
+    Written(usize),
+    Refused(u8),
+}
+
+// The selection of the others.
+pub fn opposite(selection: Selection) -> Selection
+    ensures { λ r. ⌜ r ≡ against selection ⌝ }
+{
+    let mut other = selection;
+    other.keep = !selection.keep;
+    other
+}
+
+fn is_valid(selection: Selection) -> bool
+    ensures { λ r. ⌜ r ≡ valid selection ⌝ }
+{
+    let count = selection.count;
+    if 8 < count {
+        return false;
+    }
+    let mut i: usize = 0;
+    while i < count {
+        let r = selection.ranges[i];
+        if r.high < r.low {
+            return false;
+        }
+        i += 1;
+    }
+    true
+}
+
+fn in_some(selection: Selection, n: u16) -> bool
+    requires { ⌜ selection .count ≤ 8 ⌝ }
+    ensures { λ r. ⌜ r ≡ inSome (meaning selection .ranges) n ⌝ }
+{
+    let count = selection.count;
+    let mut i: usize = 0;
+    while i < count {
+        let r = selection.ranges[i];
+        if r.low <= n {
+            if n <= r.high {
+                return true;
+            }
+        }
+        i += 1;
+    }
+    false
+}
+
+fn is_selected(selection: Selection, n: u16) -> bool
+    requires { ⌜ selection .count ≤ 8 ⌝ }
+    ensures { λ r. ⌜ r ≡ selects (meaning selection) n ⌝ }
+{
+    if in_some(selection, n) {
+        return selection.keep;
+    }
+    !selection.keep
+}
+
+// How long the cut is of a file whose frames start at `start`.
+fn cut_length(format: Format, file: &[u8], selection: Selection, start: usize) -> usize
+    requires { ⌜ (start ≤ length (now file)) × Heads format (drop start (now file)) × (selection .count ≤ 8) ⌝ }
+    ensures { λ r. ⌜ r ≡ start + length (kept format (meaning selection) (drop start (now (file .entry)))) ⌝ }
+{
+    let mut at = start;
+    let mut len = start;
+    loop {
+        match gdb_read::head_at(format, file, at) {
+            FrameStep::End => {
+                return len;
+            }
+            FrameStep::Refused(_) => {
+                return len;
+            }
+            FrameStep::Frame { head, next } => {
+                if is_selected(selection, head.tracepoint) {
+                    len += next - at;
+                }
+                at = next;
+            }
+        }
+    }
+}
+
+// Writes the opening and each kept frame; the caller has seen that there is room.
+fn write_cut(
+    format: Format,
+    file: &[u8],
+    selection: Selection,
+    start: usize,
+    out: &mut [u8],
+) -> usize
+    requires { ⌜ (start ≤ length (now file)) × Heads format (drop start (now file)) × (selection .count ≤ 8) × (start + length (kept format (meaning selection) (drop start (now file))) ≤ length (now out)) ⌝ }
+    ensures { λ r. ⌜ (r ≡ start + length (kept format (meaning selection) (drop start (now (file .entry))))) × (now (out .exit) ≡ (take start (now (file .entry)) ++ kept format (meaning selection) (drop start (now (file .entry)))) ++ drop (start + length (kept format (meaning selection) (drop start (now (file .entry))))) (now (out .entry))) ⌝ }
+{
+    let mut len = bytes::copy(&file[..start], out);
+    let mut at = start;
+    loop {
+        match gdb_read::head_at(format, file, at) {
+            FrameStep::End => {
+                return len;
+            }
+            FrameStep::Refused(_) => {
+                return len;
+            }
+            FrameStep::Frame { head, next } => {
+                if is_selected(selection, head.tracepoint) {
+                    len += bytes::copy(&file[at..next], &mut out[len..]);
+                }
+                at = next;
+            }
+        }
+    }
+}
+
+// The opening of `file`, then its frames that the selection selects.
+pub fn cut(settings: Settings, file: &[u8], selection: Selection, out: &mut [u8]) -> EditAnswer
+    ensures { λ r. ⌜ Ends (cutOf settings selection (now (file .entry))) (now (out .entry)) r (now (out .exit)) ⌝ }
+{
+    if !is_valid(selection) {
+        return EditAnswer::Refused(BAD_ARGUMENT);
+    }
+    match gdb_read::read(settings, file) {
+        Reading::Refused(n) => EditAnswer::Refused(n),
+        Reading::Accepted(o) => {
+            let format = o.format;
+            let start = o.start;
+            let n = cut_length(format, file, selection, start);
+            if out.len() < n {
+                return EditAnswer::Refused(NO_ROOM);
+            }
+            EditAnswer::Written(write_cut(format, file, selection, start, out))
+        }
+    }
+}
+
+// Two traces that can be joined, each as it was read; or the join's refusal.
+pub enum Pair {
+    Sound { first: Opened, second: Opened },
+    Refused(u8),
+}
+
+// The longest file, 64 MiB.
+const LIMIT: usize = 67108864;
+
+pub fn joinable(settings: Settings, first: &[u8], second: &[u8]) -> Pair
+    ensures { λ r. ⌜ pairMeaning r ≡ pairSeen settings (now (first .entry)) (now (second .entry)) ⌝ }
+{
+    match gdb_read::read(settings, first) {
+        Reading::Refused(n) => Pair::Refused(n),
+        Reading::Accepted(a) => match gdb_read::read(settings, second) {
+            Reading::Refused(n) => Pair::Refused(n),
+            Reading::Accepted(b) => {
+                let i = a.start;
+                let j = b.start;
+                if !check::same(&first[..i], &second[..j]) {
+                    return Pair::Refused(OPENINGS_DIFFER);
+                }
+                if LIMIT - first.len() < second.len() - j {
+                    return Pair::Refused(TOO_LONG);
+                }
+                Pair::Sound {
+                    first: a,
+                    second: b,
+                }
+            }
+        },
+    }
+}
+
+// The common opening, the first trace's frames and the second's.
+pub fn join(settings: Settings, first: &[u8], second: &[u8], out: &mut [u8]) -> EditAnswer
+    ensures { λ r. ⌜ Ends (joinOf settings (now (first .entry)) (now (second .entry))) (now (out .entry)) r (now (out .exit)) ⌝ }
+{
+    match joinable(settings, first, second) {
+        Pair::Refused(n) => EditAnswer::Refused(n),
+        Pair::Sound {
+            first: _,
+            second: o,
+        } => {
+            let start = o.start;
+            if out.len() < first.len() {
+                return EditAnswer::Refused(NO_ROOM);
+            }
+            if out.len() - first.len() < second.len() - start {
+                return EditAnswer::Refused(NO_ROOM);
+            }
+            let len = bytes::copy(first, out);
+            EditAnswer::Written(len + bytes::copy(&second[start..], &mut out[len..]))
+        }
+    }
+}

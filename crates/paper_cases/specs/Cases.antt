@@ -16,7 +16,8 @@ use Rattle.gdb_read.specs.Steps.{Row}
 use Rattle.gdb_frames.specs.Places.{part}
 use Rattle.gdb_frames.specs.Questions.{asked, table}
 use Rattle.gdb_blocks.specs.Search.{registersAt, memoryAt, variableAt}
-use Rattle.gdb_edit.specs.Cut.{Selection, cutFile}
+use Rattle.gdb_edit.specs.Cut.{cutOf}
+use Rattle.gdb_edit.specs.declared.Selection.{Selection}
 
 pub data Question : Type 0 where
   frames : Question
@@ -38,7 +39,7 @@ about s b frames = asked s b (λ f t. accepted (rows (table f t)))
 about s b (registers n) = ofPart b (asked s b (registersAt n))
 about s b (memory n a) = ofPart b (asked s b (memoryAt a n))
 about s b (variable n v) = next (asked s b (variableAt v n)) (λ z. accepted (value z))
-about s b (cut sel) = next (cutFile s sel b) (λ c. accepted (bytes c))
+about s b (cut sel) = next (cutOf s sel b) (λ c. accepted (bytes c))
 
 pub record Case : Type 0 where
   pub settings : Settings
@@ -83,6 +84,10 @@ top = bare (1 ∷ 0 ∷ 13 ∷ 0 ∷ 0 ∷ 0 ∷ 0x4D ∷ 0xFF ∷ 0xFF ∷ 0xFF
 abbrev minus : List ℕ
 minus = bare (1 ∷ 0 ∷ 13 ∷ 0 ∷ 0 ∷ 0 ∷ 0x56 ∷ 1 ∷ 0 ∷ 0 ∷ 0 ∷ 0xFF ∷ 0xFF ∷ 0xFF ∷ 0xFF ∷ 0xFF ∷ 0xFF ∷ 0xFF ∷ 0xFF ∷ [])
 
+-- keep 1..1
+abbrev only1 : Selection
+only1 = record { ranges = record { low = 1; high = 1 } ∷ []; count = 1; keep = true }
+
 abbrev pub cases : List Case
 cases =
     little [] frames (refused badHead)
@@ -99,10 +104,10 @@ cases =
     ∷ little top (memory 0 0) (accepted (bytes (0x22 ∷ [])))
     ∷ little top (memory 0 1) (refused notFound)
     ∷ little minus (variable 0 1) (accepted (value (negsuc 0)))
-    ∷ little (bare (empty1 ++ empty2 ++ empty1)) (cut (record { keep = true; ranges = (1, 1) ∷ [] })) (accepted (bytes (bare (empty1 ++ empty1))))
+    ∷ little (bare (empty1 ++ empty2 ++ empty1)) (cut only1) (accepted (bytes (bare (empty1 ++ empty1))))
     ∷ []
 
 pub cases-hold : Each Holds cases
-unfolding read opening encode
+unfolding read opening encode cutOf
 cases-hold =
     (refl, (refl, (refl, (refl, (refl, (refl, (refl, (refl, (refl, (refl, (refl, (refl, (refl, (refl, (refl, tt)))))))))))))))
