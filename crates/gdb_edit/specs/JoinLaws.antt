@@ -26,6 +26,9 @@ use Rattle.gdb_edit.specs.Cut.{join, sameBytes, within, joinOf}
 use Rattle.gdb_edit.specs.Joined.{pairSeen}
 use Rattle.gdb_edit.specs.CutLaws.{flat-append, bytes-of, same-bytes, bytes-same}
 
+pub refused-same : {A : Type 0} {i j : ℕ} → _≡_ {A = Answer A} (refused i) (refused j) → j ≡ i
+refused-same e = cc
+
 -- ---- refusals of the files
 
 module _ (s : Settings) (a b : List ℕ) where
@@ -164,10 +167,7 @@ pair-refused s a b n ha hb e = by (joinOf s a b) refl
   where
     by : (x : Answer (List ℕ)) → joinOf s a b ≡ x → x ≡ refused n
     by (accepted c) g = let q = join-inv s a b c ha hb g in never (e ∙ sym (pair-gives s a b (q .0) (q .1) (q .2) (q .3) c g))
-    by (refused k) g = ap refused (same-number (e ∙ sym (pair-of-refused s a b k g)))
-      where
-        same-number : {A : Type 0} {i j : ℕ} → _≡_ {A = Answer A} (refused i) (refused j) → j ≡ i
-        same-number e = cc
+    by (refused k) g = ap refused (refused-same (e ∙ sym (pair-of-refused s a b k g)))
 
 -- two files whose pair is sound: the join is the first file and the second's frames
 pub pair-joins : (s : Settings) (a b : List ℕ) (m k : Summary) → Bytes a → Bytes b → accepted (m, k) ≡ pairSeen s a b

@@ -36,7 +36,7 @@ pub enum PlaceAnswer {
 }
 
 // The frame that n further heads lead to from `from`; blocks are not looked at.
-fn nth_head(format: Format, s: &[u8], from: usize, n: usize) -> FrameStep
+pub fn nth_head(format: Format, s: &[u8], from: usize, n: usize) -> FrameStep
     ensures { λ r. ⌜ frameMeaning r ≡ nthHead format (now (s .entry)) n from ⌝ }
 {
     let mut at = from;
