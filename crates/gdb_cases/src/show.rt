@@ -1,0 +1,84 @@
+// What the answers are printed as.
+use gdb_format::LineKind;
+use gdb_frames::PlaceAnswer;
+use gdb_read::BlockKind;
+use gdb_read::BlockRecord;
+use libc::STDOUT_FILENO;
+
+pub fn text(t: &[u8]) {
+    io::write_all(STDOUT_FILENO, t);
+}
+
+// A word and a number.
+pub fn number(word: &[u8], n: u64) {
+    text(word);
+    io::print_decimal(STDOUT_FILENO, n);
+}
+
+pub fn refused(n: u8) {
+    number(b" refused ", n as u64);
+}
+
+// A signed value. The lowest has no opposite, so what is printed after the sign is one more than the turned bits.
+pub fn signed(v: i64) {
+    if v >= 0 {
+        number(b" value ", v as u64);
+    } else {
+        number(b" value -", (!v) as u64 + 1);
+    }
+}
+
+fn byte(b: u8) {
+    text(b" ");
+    io::print_hex(STDOUT_FILENO, b as u64, 2);
+}
+
+// A part of the file, in brackets, so that an empty one shows.
+pub fn bytes(part: &[u8]) {
+    text(b" [");
+    let mut k: usize = 0;
+    while k < part.len() {
+        byte(part[k]);
+        k += 1;
+    }
+    text(b" ]");
+}
+
+pub fn place(answer: PlaceAnswer) {
+    match answer {
+        PlaceAnswer::At { place, length } => {
+            number(b" place ", place as u64);
+            number(b" length ", length as u64);
+        }
+        PlaceAnswer::Refused(n) => {
+            refused(n);
+        }
+    }
+}
+
+pub fn line_kind(kind: LineKind) {
+    match kind {
+        LineKind::Registers => text(b" registers"),
+        LineKind::Status => text(b" status"),
+        LineKind::Tracepoint => text(b" tracepoint"),
+        LineKind::Variable => text(b" variable"),
+        LineKind::Target => text(b" target"),
+        LineKind::Other => text(b" other"),
+    }
+}
+
+pub fn block(block: BlockRecord) {
+    number(b" place ", block.place as u64);
+    let kind = block.kind;
+    match kind {
+        BlockKind::Registers => text(b" registers"),
+        BlockKind::Memory(span) => {
+            number(b" memory address ", span.address);
+            number(b" length ", span.length as u64);
+        }
+        BlockKind::Variable { number: n, value } => {
+            number(b" variable ", n as u64);
+            signed(value);
+        }
+    }
+}

@@ -1,0 +1,96 @@
+// The reading of a whole file, and what it finds at single places.
+use crate::show;
+use crate::table;
+use crate::table::Number;
+use gdb_format::Checked;
+use gdb_format::Format;
+use gdb_format::RegisterSize;
+use gdb_format::Settings;
+use gdb_read::BlockStep;
+use gdb_read::FrameStep;
+use gdb_read::Reading;
+
+pub fn summary(settings: Settings, file: &[u8]) {
+    match gdb_read::read(settings, file) {
+        Reading::Refused(n) => {
+            show::refused(n);
+        }
+        Reading::Accepted(opened) => {
+            show::number(b" start ", opened.start as u64);
+            let size = opened.size;
+            match size {
+                RegisterSize::Unknown => show::text(b" no size"),
+                RegisterSize::Bytes(n) => show::number(b" size ", n as u64),
+            }
+            show::number(b" frames ", opened.frames as u64);
+        }
+    }
+}
+
+// The register size that a table's line states.
+fn size_of(n: Number) -> RegisterSize {
+    if n.found {
+        return RegisterSize::Bytes((n.value % 65536) as usize);
+    }
+    RegisterSize::Unknown
+}
+
+fn block(step: BlockStep) {
+    match step {
+        BlockStep::End => {
+            show::text(b" end");
+        }
+        BlockStep::Refused(n) => {
+            show::refused(n);
+        }
+        BlockStep::Block {
+            record: found,
+            next,
+        } => {
+            show::block(found);
+            show::number(b" next ", next as u64);
+        }
+    }
+}
+
+fn frame(step: FrameStep) {
+    match step {
+        FrameStep::End => {
+            show::text(b" end");
+        }
+        FrameStep::Refused(n) => {
+            show::refused(n);
+        }
+        FrameStep::Frame { head, next } => {
+            show::number(b" tracepoint ", head.tracepoint as u64);
+            show::number(b" place ", head.place as u64);
+            show::number(b" size ", head.size as u64);
+            show::number(b" next ", next as u64);
+        }
+    }
+}
+
+// What stands at a place: data AT SIZE, head AT, whole AT SIZE; without SIZE there is no R line.
+fn at(format: Format, s: &[u8], t: &[u8]) {
+    let place = table::number_after(t, 0);
+    let size = size_of(table::number_after(t, place.next));
+    let k = place.value as usize;
+    match table::byte(t, 0) {
+        b'd' => block(gdb_read::block_at(format, size, s, k)),
+        b'h' => frame(gdb_read::head_at(format, s, k)),
+        b'w' => frame(gdb_read::frame_at(format, size, s, k)),
+        _ => show::text(b" no such question"),
+    }
+}
+
+// The questions: summary; kind, of the file as a line; and those about a place.
+pub fn question(settings: Settings, s: &[u8], t: &[u8]) {
+    match table::byte(t, 0) {
+        b's' => summary(settings, s),
+        b'k' => show::line_kind(gdb_format::line_kind(s)),
+        _ => match gdb_format::format_of(settings) {
+            Checked::Known(format) => at(format, s, t),
+            Checked::Refused(n) => show::refused(n),
+        },
+    }
+}

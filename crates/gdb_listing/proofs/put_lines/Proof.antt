@@ -1,0 +1,82 @@
+-- `gdb_listing::put_lines` meets its contract. The loop's invariant: to write the lines of the frames that are left is all that is left to do.
+-- Assumes nothing.
+use mathlib.Core.Path.{sym, ap, _∙_}
+use Prim.Native.Nat.{ℕ, _-_}
+use mathlib.Core.List.{List, _++_}
+use Rattle.fields.specs.Lists.{flat}
+use Rattle.gdb_read.specs.Steps.{headMeaning, frameMeaning}
+use Rattle.gdb_listing.specs.Text.{lineOf}
+use Rattle.gdb_listing.specs.Written.{Left, left-all, left-room, left-less}
+use Rattle.gdb_listing.specs.Rows.{rowsFrom, rows-zero, rows-none, rows-fault, rows-on, lines-end, lines-on}
+use borrow.Author.Needs.{needs}
+use native.Mathlib.Omega.{arith}
+use Rattle.gdb_listing.proofs.put_lines.Statement.{statement}
+use Rattle.gdb_listing.proofs.put_lines.Tie as tie
+
+abbrev Inv-loop : tie.InvT-loop
+Inv-loop format file start frames out₀ begin at₀ left₀ len₀ out at left len =
+    Left out₀ begin (flat lineOf (rowsFrom format file frames start)) out len (flat lineOf (rowsFrom format file left at))
+
+abbrev μ-loop : tie.MeasureT-loop
+μ-loop format file start frames out₀ begin at₀ left₀ len₀ out at left len = left
+
+loop-holds : tie.Need-loop-holds Inv-loop μ-loop
+loop-holds c = let s = c .before .before in left-all (s .args .out .now) (s .args .begin) _ (s .pre)
+
+same-length : tie.Need-same-length Inv-loop μ-loop
+same-length c = c .before .before .before .before .loop .inv .long
+
+returns : tie.Need-returns Inv-loop μ-loop
+returns c =
+    let a = c .before .before .before .before .before .before .before .args in
+    let l = c .before .before .before .before .loop in
+    lines-end (rowsFrom (a .format) (a .file .now) (l .left) (l .at)) (l .inv)
+    (rows-none (a .format) (a .file .now) (l .at) (l .left) (ap frameMeaning (sym (c .enum-told .given .1)) ∙ c .before .before .head-at .ensures))
+
+same-length-2 : tie.Need-same-length-2 Inv-loop μ-loop
+same-length-2 c = c .before .before .before .before .loop .inv .long
+
+returns-2 : tie.Need-returns-2 Inv-loop μ-loop
+returns-2 c =
+    let a = c .before .before .before .before .before .before .before .args in
+    let l = c .before .before .before .before .loop in
+    let g = c .enum-told2 .given in
+    lines-end (rowsFrom (a .format) (a .file .now) (l .left) (l .at)) (l .inv)
+    (rows-fault (a .format) (a .file .now) (l .at) (l .left) (g .0 .0) (ap frameMeaning (sym (g .1)) ∙ c .before .before .head-at .ensures))
+
+-- the line of the frame that was met, and those after it, are left
+abbrev line : tie.After-head Inv-loop μ-loop → List ℕ
+line c = lineOf (headMeaning (c .head .given .0 .0))
+
+abbrev more : tie.After-head Inv-loop μ-loop → List ℕ
+more c = let a = c .before .before .before .before .before .before .before .args in flat lineOf (rowsFrom (a .format) (a .file .now) (c .before .before .before .before .loop .left - 1) (c .head .given .0 .1 .0))
+
+met : (c : tie.After-head Inv-loop μ-loop)
+    → Left (c .before .before .before .before .before .before .before .args .out .now) (c .before .before .before .before .before .before .before .args .begin) (let a = c .before .before .before .before .before .before .before .args in flat lineOf (rowsFrom (a .format) (a .file .now) (a .frames) (a .start)))
+    (c .before .before .before .before .loop .out) (c .before .before .before .before .loop .len) (line c ++ more c)
+met c =
+    let a = c .before .before .before .before .before .before .before .args in
+    let l = c .before .before .before .before .loop in
+    let g = c .head .given in
+    lines-on (rowsFrom (a .format) (a .file .now) (l .left) (l .at)) (l .inv) (headMeaning (g .0 .0)) (rowsFrom (a .format) (a .file .now) (l .left - 1) (g .0 .1 .0))
+    (rows-on (a .format) (a .file .now) (l .at) (l .left) (omega arith) (headMeaning (g .0 .0)) (g .0 .1 .0) (ap frameMeaning (sym (g .1)) ∙ c .before .before .head-at .ensures))
+
+put-line-requires : tie.Need-put-line-requires Inv-loop μ-loop
+put-line-requires c κs = let h = c .before .before in left-room (line h) (more h) (met h)
+
+loop-again : tie.Need-loop-again Inv-loop μ-loop
+loop-again c = left-less (met (c .before .before .before .before .before)) (c .before .before .put-line .ensures)
+
+same-length-3 : tie.Need-same-length-3 Inv-loop μ-loop
+same-length-3 c = c .before .loop .inv .long
+
+returns-3 : tie.Need-returns-3 Inv-loop μ-loop
+returns-3 c =
+    let a = c .before .before .before .before .args in
+    let l = c .before .loop in
+    lines-end (rowsFrom (a .format) (a .file .now) (l .left) (l .at)) (l .inv) (rows-zero (a .format) (a .file .now) (l .at) (l .left) (omega arith))
+
+pub put-lines-spec : {M : Type 1} → statement M
+put-lines-spec =
+    tie.close
+    (tie.spec Inv-loop μ-loop loop-holds (λ c κs. search needs) (λ c. search needs) same-length returns (λ c. search needs) same-length-2 returns-2 (λ c. search needs) put-line-requires (λ c. search needs) (λ c. search needs) loop-again same-length-3 returns-3)

@@ -1,0 +1,137 @@
+-- The walk over an accepted file meets the frame table, whose lines are short; and what is listed, by what the reading answers.
+-- Assumes nothing.
+use mathlib.Core.Path.{_≡_, refl, sym, ap, _∙_, subst}
+use mathlib.Core.Bool.{Bool, true, false, cond}
+use mathlib.Core.Option.{Option}
+use Prim.Native.Nat.{ℕ, suc, _+_, _*_, _<_, _≤_}
+use native.Mathlib.Omega.{arith}
+use mathlib.Core.List.{List, [], _∷_, _++_, map}
+use lib.ListN.{length, length-append}
+use lib.Dec.{ltb}
+use borrow.Author.Tests.{lt-ltb, le-ltb, ltb-false}
+use Rattle.refusals.specs.Refusal.{tooLong}
+use Rattle.fields.specs.Lists.{flat, Each}
+use Rattle.fields.specs.Number.{Bytes, field, length-field}
+use Rattle.fields.specs.Answer.{Answer, accepted, refused, next}
+use Rattle.gdb_format.specs.Trace.{Frame, Trace, opening, putFrame, dataOf}
+use Rattle.gdb_format.specs.Lines.{registerSize}
+use Rattle.gdb_format.specs.Layout.{FrameFits}
+use Rattle.gdb_format.specs.Decode.{read}
+use Rattle.gdb_format.specs.declared.Format.{Format}
+use Rattle.gdb_format.specs.declared.Settings.{Settings}
+use Rattle.gdb_read.specs.Steps.{Row, frameSeen, Summary, readSeen}
+use Rattle.gdb_frames.specs.Places.{placed, nth}
+use Rattle.gdb_frames.specs.Questions.{asked, table}
+use Rattle.gdb_frames.specs.Nth.{nthHead, shownNth}
+use Rattle.gdb_frames.specs.File.{File, file-of, asked-refused, told}
+use Rattle.gdb_frames.specs.Located.{head-nth}
+use Rattle.gdb_listing.specs.Text.{ended, lineOf, framesWord, text, limit, wholeTable, listed, roomFor}
+use Rattle.gdb_listing.specs.DecimalLaws.{line-short}
+use Rattle.gdb_listing.specs.Written.{Puts, puts-then}
+use Rattle.gdb_listing.specs.Rows.{rowsFrom, Listable}
+
+-- what frames show that stand from `at` on
+abbrev shown : Format → ℕ → List Frame → List Row
+shown f at xs = map (λ r. frameSeen f (r .0) (r .1)) (placed (putFrame f) at xs)
+
+-- the walk meets them
+rows-shown : (f : Format) (s : List ℕ) (xs : List Frame) (at : ℕ)
+    → ((n : ℕ) → nthHead f s n at ≡ shownNth (frameSeen f) (putFrame f) (nth (placed (putFrame f) at xs) n)) → rowsFrom f s (length xs) at ≡ shown f at xs
+rows-shown f s [] at e = refl
+rows-shown f s (x ∷ xs) at e =
+    rw (e 0) (ap (λ rows. frameSeen f at x ∷ rows) (rows-shown f s xs (at + length (putFrame f x)) (λ n. rw (e 0) at (e (suc n)))))
+
+shown-length : (f : Format) (at : ℕ) (xs : List Frame) → length (shown f at xs) ≡ length xs
+shown-length f at [] = refl
+shown-length f at (x ∷ xs) = ap suc (shown-length f (at + length (putFrame f x)) xs)
+
+frame-length : (f : Format) (r : Frame) → length (putFrame f r) ≡ 6 + length (dataOf f r)
+frame-length f r =
+    let d = dataOf f r in
+    omega (
+      arith,
+      length-append (field (f .order) 2 (r .tracepoint)) (field (f .order) 4 (length d) ++ d),
+      length-append (field (f .order) 4 (length d)) d,
+      length-field (f .order) 2 (r .tracepoint),
+      length-field (f .order) 4 (length d),
+    )
+
+frames-length : (f : Format) (xs : List Frame) → 6 * length xs ≤ length (flat (putFrame f) xs)
+frames-length f [] = omega arith
+frames-length f (x ∷ xs) = omega (arith, length-append (putFrame f x) (flat (putFrame f) xs), frame-length f x, frames-length f xs)
+
+lines-short : (f : Format) (size : Option ℕ) (xs : List Frame) (at : ℕ) → Each (FrameFits f size) xs → at + length (flat (putFrame f) xs) ≤ limit
+    → length (flat lineOf (shown f at xs)) ≤ 18 * length xs
+lines-short f size [] at g h = omega arith
+lines-short f size (x ∷ xs) at g h =
+    let k = length-append (putFrame f x) (flat (putFrame f) xs) in
+    let m = frame-length f x in
+    let tp : x .tracepoint < 65536 = g .0 .0 in
+    let one = line-short (frameSeen f at x) (omega arith) (omega (arith, k, m)) (omega (arith, k, m)) in
+    let more = lines-short f size xs (at + length (putFrame f x)) (g .1) (omega (arith, k)) in
+    omega (arith, length-append (lineOf (frameSeen f at x)) (flat lineOf (shown f (at + length (putFrame f x)) xs)))
+
+-- ---- an accepted file
+
+module _ (f : Format) (b : List ℕ) (t : Trace) (i : File f b t) where
+  pub rows-table : rowsFrom f b (length (t .frames)) (length (opening (t .lines))) ≡ table f t
+  rows-table = rows-shown f b (t .frames) (length (opening (t .lines))) (λ n. head-nth f b t n i)
+
+  file-length : length (opening (t .lines)) + length (flat (putFrame f) (t .frames)) ≡ length b
+  file-length = sym (length-append (opening (t .lines)) (flat (putFrame f) (t .frames))) ∙ ap length (i .laid-out)
+
+  pub frames-few : 6 * length (t .frames) ≤ length b
+  frames-few = omega (arith, frames-length f (t .frames), file-length)
+
+  pub listable : length b ≤ limit → Listable f b (length (t .frames)) (length (opening (t .lines)))
+  listable h =
+      record {
+        count = ap length rows-table ∙ shown-length f (length (opening (t .lines))) (t .frames);
+        few = omega (arith, frames-few);
+        short = rw rows-table (lines-short f (registerSize f (t .lines)) (t .frames) (length (opening (t .lines))) (i .fits .frames-fit) (omega (arith, file-length)));
+      }
+
+-- the words and the lines, one after another
+pub puts-table : {out one two after : List ℕ} {a b r : ℕ} (f : Format) (s : List ℕ) (n at : ℕ) → Listable f s n at
+    → Puts out 0 framesWord a one → Puts one a (ended n 0x0A) b two → Puts two b (flat lineOf (rowsFrom f s n at)) r after
+    → Puts out 0 (text (accepted (rowsFrom f s n at))) r after
+puts-table {out} {one} {two} {after} {a} {b} f s n at i p q r =
+    puts-then p (puts-then (subst (λ k. Puts one a (ended k 0x0A) b two) (sym (i .count)) q) r)
+
+-- ---- what is listed
+
+pub listed-long : (s : Settings) (b : List ℕ) → limit < length b → refused tooLong ≡ listed s b
+unfolding listed
+listed-long s b h = rw (lt-ltb limit (length b) h)
+
+module _ (s : Settings) (b : List ℕ) (h : length b ≤ limit) where
+  listed-asked : listed s b ≡ asked s b wholeTable
+  unfolding listed
+  listed-asked = rw (le-ltb limit (length b) h)
+
+  pub listed-refused : (n : ℕ) → refused n ≡ readSeen (read s b) → refused n ≡ listed s b
+  listed-refused n e = asked-refused s b wholeTable n e ∙ sym listed-asked
+
+  module _ (g : Bytes b) (m : Summary) (e : accepted m ≡ readSeen (read s b)) where
+    pub listed-rows : accepted (rowsFrom (m .format) b (m .frames) (m .start)) ≡ listed s b
+    listed-rows =
+        told s b g m e (λ m. accepted (rowsFrom (m .format) b (m .frames) (m .start)) ≡ asked s b wholeTable) (λ f t r i. ap accepted (rows-table f b t i) ∙ rw r)
+        ∙ sym listed-asked
+
+    pub listed-listable : Listable (m .format) b (m .frames) (m .start)
+    listed-listable = told s b g m e (λ m. Listable (m .format) b (m .frames) (m .start)) (λ f t r i. listable f b t i h)
+
+-- 196,626 bytes have room for every listing: a frame takes at least 6 bytes of the file, so its line at most 3 for each of them
+module _ (s : Settings) (b : List ℕ) (g : Bytes b) where
+  room-asked : length b ≤ limit → (x : Answer (Format × Trace)) → read s b ≡ x → roomFor (next x (λ r. wholeTable (r .0) (r .1))) ≤ 196626
+  room-asked h (accepted (f, t)) e =
+      omega (arith, frames-few f b t (file-of s b f t g e), shown-length f (length (opening (t .lines))) (t .frames))
+  room-asked h (refused n) e = omega arith
+
+  pub room-enough : roomFor (listed s b) ≤ 196626
+  unfolding listed
+  room-enough = by (ltb limit (length b)) refl
+    where
+      by : (t : Bool) → ltb limit (length b) ≡ t → roomFor (cond t (refused tooLong) (asked s b wholeTable)) ≤ 196626
+      by true e = omega arith
+      by false e = room-asked (ltb-false limit (length b) e) (read s b) refl

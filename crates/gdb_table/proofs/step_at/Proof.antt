@@ -1,0 +1,23 @@
+-- `gdb_table::step_at` meets its contract: what stands there, as a record. Assumes nothing.
+use mathlib.Core.Path.{sym, ap, _∙_}
+use Rattle.gdb_read.specs.Steps.{frameMeaning}
+use Rattle.gdb_table.specs.Walk.{stepOn, stepTo}
+use borrow.Author.Needs.{needs}
+use Rattle.gdb_table.proofs.step_at.Statement.{statement}
+use Rattle.gdb_table.proofs.step_at.Tie as tie
+
+returns : tie.Need-returns
+returns c =
+    let g = c .before .before .head .given in
+    ap (λ v. stepOn v (g .0 .1 .0)) (c .record-of .ensures) ∙ ap stepTo (ap frameMeaning (sym (g .1)) ∙ c .before .before .before .before .head-at .ensures)
+
+returns-2 : tie.Need-returns-2
+returns-2 c = c .nothing .ensures ∙ ap stepTo (ap frameMeaning (sym (c .before .enum-told .given .1)) ∙ c .before .before .before .head-at .ensures)
+
+returns-3 : tie.Need-returns-3
+returns-3 c = c .nothing2 .ensures ∙ ap stepTo (ap frameMeaning (sym (c .before .enum-told2 .given .1)) ∙ c .before .before .before .head-at .ensures)
+
+pub step-at-spec : {M : Type 1} → statement M
+step-at-spec =
+    tie.close
+    (tie.spec (λ c κs. search needs) (λ c. search needs) (λ c κs. search needs) (λ c. search needs) (λ c κs. search needs) (λ c. search needs) (λ c κs. search needs) returns returns-2 returns-3)
