@@ -93,11 +93,11 @@ pub fn pair_variable(
             first: a,
             second: _,
         } => {
-            let frames = a.frames;
-            if n < frames {
+            let count = a.frames;
+            if n < count {
                 return gdb_blocks::variable(settings, first, n, number);
             }
-            gdb_blocks::variable(settings, second, n - frames, number)
+            gdb_blocks::variable(settings, second, n - count, number)
         }
     }
 }

@@ -1,0 +1,94 @@
+// The table's lines: their numbers and parts.
+ghost use Prim.Native.Nat.{_≤_};
+use gdb_edit::Range;
+use gdb_edit::Selection;
+
+// Byte k; 0 past the end.
+pub fn byte(t: &[u8], k: usize) -> u8 {
+    if k < t.len() {
+        return t[k];
+    }
+    0
+}
+
+// What stands from place k on, up to `end`; nothing where that is no part.
+pub fn part(t: &[u8], k: usize, end: usize) -> &[u8] {
+    if end <= t.len() {
+        if k <= end {
+            return &t[k..end];
+        }
+    }
+    &t[..0]
+}
+
+// The place of the first 0A from `from` on, or the end.
+pub fn line_end(t: &[u8], from: usize) -> usize
+    ensures { λ r. ⌜ from ≤ r ⌝ }
+{
+    let mut k = from;
+    while k < t.len() {
+        if t[k] == b'\n' {
+            return k;
+        }
+        k += 1;
+    }
+    k
+}
+
+// A decimal digit's value, or a hexadecimal one's; 16 for other bytes.
+pub fn digit(b: u8) -> u8
+    ensures { λ r. ⌜ r ≤ 16 ⌝ }
+{
+    match b {
+        48..=57 => b - 48,
+        65..=70 => b - 55,
+        _ => 16,
+    }
+}
+
+// A number and the place after its digits; 0 where there is none.
+pub struct Number {
+    pub value: u64,
+    pub next: usize,
+}
+
+// The first decimal number from `from` on. One above 2^64 - 1 is no case of the table.
+pub fn number_after(t: &[u8], from: usize) -> Number {
+    let mut value: u64 = 0;
+    let mut found = false;
+    let mut k = from;
+    while k < t.len() {
+        let d = digit(t[k]);
+        if d < 10 {
+            value = std::num::wrapping_add_u64(value % 1844674407370955162 * 10, d as u64);
+            found = true;
+        } else if found {
+            return Number { value, next: k };
+        }
+        k += 1;
+    }
+    Number { value, next: k }
+}
+
+// The selection that a line states: the count, then the ranges.
+pub fn selection_of(keep: bool, t: &[u8]) -> Selection {
+    let count = number_after(t, 0);
+    let mut at = count.next;
+    let mut ranges = [Range { low: 0, high: 0 }; 8];
+    let mut k: usize = 0;
+    while k < 8 {
+        let low = number_after(t, at);
+        let high = number_after(t, low.next);
+        ranges[k] = Range {
+            low: (low.value % 65536) as u16,
+            high: (high.value % 65536) as u16,
+        };
+        at = high.next;
+        k += 1;
+    }
+    Selection {
+        ranges,
+        count: count.value as usize,
+        keep,
+    }
+}
