@@ -1,5 +1,5 @@
 // The table's lines: the pieces of a file, and numbers.
-ghost use Prim.Native.Nat.{_≤_, _<_};
+ghost use Prim.Native.Nat.{_≤_};
 use crate::file;
 use crate::file::File;
 
