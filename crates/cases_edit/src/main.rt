@@ -1,6 +1,6 @@
 // Runs a table of cuts, joins and questions about pairs, and writes the table with the answers.
 //
-// A join over the length limit has no case here: 67,108,864 bytes fit no array of a program, and there is no heap.
+// The length limit is tried in paper_cases/specs/Limit.antt: 67,108,864 bytes fit no array of a program, and there is no heap.
 //
 // A line of the table is one of these; numbers are decimal, and marks between them are for the reader.
 //   first PIECES, second PIECES    the two files: H the head, 0A a byte, "text"

@@ -1,7 +1,6 @@
 // Asks the questions of a table of cases, in both byte orders, and writes the table with the answers.
 //
-// Refusal 1 has no case here: a file of 67,108,864 bytes fits no array of a program, and there is no heap. The definition
-// decides it, and an edit that moves the limit by one is refused (gdb_read/must-fail/limit_itself.edit).
+// Refusal 1 is tried in paper_cases/specs/Limit.antt: 67,108,864 bytes fit no array of a program, and there is no heap.
 //
 // A line of the table is a file, a question about the last file, or a note.
 //   = PIECES       a file: H the head, n 0A, "text", xAA a byte, w1 d1 q1 a number of 2, 4 or 8 bytes, c9 cut to 9 bytes

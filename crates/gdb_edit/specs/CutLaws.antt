@@ -115,7 +115,7 @@ beq-not false false = refl
 pub picks-other : (c : Selection) (r : Frame) → picks (opposite c) r ≡ not (picks c r)
 picks-other c r = beq-not (c .keep) (inSome (c .ranges) (r .tracepoint))
 
-length-encode : (f : Format) (t : Trace) → length (encode f t) ≡ length (opening (t .lines)) + length (flat (putFrame f) (t .frames))
+pub length-encode : (f : Format) (t : Trace) → length (encode f t) ≡ length (opening (t .lines)) + length (flat (putFrame f) (t .frames))
 unfolding encode
 length-encode f t = length-append (opening (t .lines)) (flat (putFrame f) (t .frames))
 

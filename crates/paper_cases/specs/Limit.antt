@@ -1,0 +1,69 @@
+-- Both sides of the length limit, tried on the definitions: no array of a program holds such files.
+-- Assumes nothing.
+use mathlib.Core.Path.{_≡_, refl}
+use Prim.Native.Nat.{ℕ, zero, suc, _+_, _≤_}
+use native.Mathlib.Omega.{arith}
+use mathlib.Core.List.{[], _∷_}
+use lib.ListN.{length, replicate, length-replicate, length-append}
+use borrow.Author.Tests.{lt-leb}
+use Rattle.refusals.specs.Refusal.{tooLong}
+use Rattle.fields.specs.Lists.{flat}
+use Rattle.fields.specs.Number.{length-field}
+use Rattle.fields.specs.Answer.{accepted, refused}
+use Rattle.gdb_format.specs.Trace.{Trace, traceOf, putFrame, opening, encode}
+use Rattle.gdb_format.specs.Layout.{NoEnd, limit}
+use Rattle.gdb_format.specs.Settings.{settingsOf}
+use Rattle.gdb_format.specs.Decode.{decode, read}
+use Rattle.gdb_format.specs.declared.Settings.{Settings}
+use Rattle.gdb_format.specs.declared.Format.{Format}
+use Rattle.gdb_frames.specs.File.{File}
+use Rattle.gdb_edit.specs.Cut.{join, joinOf}
+use Rattle.gdb_edit.specs.CutLaws.{length-encode, holds, read-file, join-call, bytes-same}
+
+-- a line `xxx..` of k + 1 bytes, and one frame of size 0
+abbrev long : ℕ → Trace
+long k = traceOf ((0x78 ∷ replicate k 0x78) ∷ []) (record { tracepoint = 1; blocks = [] } ∷ [])
+
+no-end : (k : ℕ) → NoEnd (replicate k 0x78)
+no-end zero = tt
+no-end (suc k) = ((λ e. absurd (omega arith)), no-end k)
+
+module _ (s : Settings) (f : Format) (ok : settingsOf s ≡ accepted f) (k : ℕ) where
+  opening-long : length (opening (long k .lines)) ≡ k + 11
+  unfolding opening
+  opening-long = simp (length-append, length-replicate) (omega arith)
+
+  frame-long : length (flat (putFrame f) (long k .frames)) ≡ 6
+  frame-long = simp (length-append, length-field) refl
+
+  frames-long : length (flat (putFrame f) (join (long k) (long k) .frames)) ≡ 12
+  frames-long = simp (length-append, length-field) refl
+
+  file-long : k + 17 ≤ limit → File f (encode f (long k)) (long k)
+  file-long h =
+      holds f (long k) (encode f (long k)) (record {
+        lines-fit = (omega arith, ((λ e. absurd (omega arith)), no-end k), refl, tt);
+        frames-fit = ((omega arith, omega arith, tt), tt);
+        length-fits = omega (arith, h, length-encode f (long k), opening-long, frame-long);
+      }) refl
+
+  -- a file of 67,108,864 bytes is read, one of a byte more is refused with 1
+  pub longest-file : k + 17 ≡ 67108864 → read s (encode f (long k)) ≡ accepted (f, long k)
+  longest-file h = read-file s f (encode f (long k)) (long k) ok (file-long (omega (arith, h)))
+
+  pub file-too-long : k + 17 ≡ 67108865 → read s (encode f (long k)) ≡ refused tooLong
+  unfolding read decode
+  file-too-long h = rw (ok, lt-leb (length (encode f (long k))) limit (omega (arith, h, length-encode f (long k), opening-long, frame-long)))
+
+  -- the same for a join's result
+  pub longest-join : k + 23 ≡ 67108864 → joinOf s (encode f (long k)) (encode f (long k)) ≡ accepted (encode f (join (long k) (long k)))
+  longest-join h =
+      let i = file-long (omega (arith, h)) in
+      join-call s f ok (encode f (long k)) (encode f (long k)) (long k) (long k) i i refl
+      (omega (arith, h, length-encode f (join (long k) (long k)), opening-long, frames-long))
+
+  pub join-too-long : k + 23 ≡ 67108865 → joinOf s (encode f (long k)) (encode f (long k)) ≡ refused tooLong
+  unfolding joinOf
+  join-too-long h =
+      rw (read-file s f (encode f (long k)) (long k) ok (file-long (omega (arith, h))), bytes-same (opening (long k .lines)))
+      (rw (lt-leb (length (encode f (join (long k) (long k)))) limit (omega (arith, h, length-encode f (join (long k) (long k)), opening-long, frames-long))))
