@@ -11,6 +11,7 @@ ghost use Rattle.gdb_edit.specs.Joined.{pairMeaning, pairSeen};
 use gdb_format::Format;
 use gdb_format::Settings;
 use gdb_read::FrameStep;
+use gdb_read::LIMIT;
 use gdb_read::Opened;
 use gdb_read::Reading;
 use refusals::BAD_ARGUMENT;
@@ -173,9 +174,6 @@ pub enum Pair {
     Sound { first: Opened, second: Opened },
     Refused(u8),
 }
-
-// The longest file, 64 MiB.
-const LIMIT: usize = 67108864;
 
 pub fn joinable(settings: Settings, first: &[u8], second: &[u8]) -> Pair
     ensures { λ r. ⌜ pairMeaning r ≡ pairSeen settings (now (first .entry)) (now (second .entry)) ⌝ }

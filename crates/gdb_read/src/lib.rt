@@ -251,7 +251,7 @@ pub enum Reading {
 }
 
 // The longest file, 64 MiB.
-const LIMIT: usize = 67108864;
+pub const LIMIT: usize = 67108864;
 
 fn read_as(format: Format, file: &[u8]) -> Reading
     ensures { λ r. ⌜ readingMeaning r ≡ summaryIn format (decode format (now (file .entry))) ⌝ }
