@@ -7,3 +7,4 @@ pub mod Reader
 pub mod Takes
 pub mod Exact
 pub mod At
+pub mod Got

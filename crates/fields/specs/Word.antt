@@ -42,6 +42,10 @@ starts-same (x ∷ a) (y ∷ b) l e =
     let q = and-inv (eqb x y) (starts a b) e in
     ap₂ {C = List ℕ} (λ z t. z ∷ t) (eqb-true x y (q .0)) (starts-same a b (omega arith) (q .1))
 
+pub starts-self : (w : List ℕ) → starts w w ≡ true
+starts-self [] = refl
+starts-self (x ∷ w) = rw (eq-eqb x x refl, starts-self w)
+
 -- the test byte by byte
 module _ (w l : List ℕ) (k : ℕ) where
   pub starts-end : length w ≤ k → starts (drop k w) (drop k l) ≡ true

@@ -5,10 +5,9 @@ use Prim.Native.Nat.{ℕ}
 use mathlib.Core.List.{List, [], _∷_, _++_}
 use lib.ListN.{length}
 use lib.Dec.{leb, eqb}
-use Rattle.refusals.specs.Refusal.{tooLong, openingsDiffer}
+use Rattle.refusals.specs.Refusal.{limit, tooLong, openingsDiffer}
 use Rattle.fields.specs.Answer.{Answer, accepted, refused, next}
 use Rattle.gdb_format.specs.Trace.{Trace, withFrames, opening, encode}
-use Rattle.gdb_format.specs.Layout.{limit}
 use Rattle.gdb_format.specs.Decode.{read}
 use Rattle.gdb_format.specs.declared.Settings.{Settings}
 use Rattle.gdb_edit.specs.Selection.{Selection, picks, selectionOf}

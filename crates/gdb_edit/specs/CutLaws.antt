@@ -8,12 +8,13 @@ use mathlib.Core.List.{List, [], _∷_, _++_, append-assoc, append-nil}
 use lib.ListN.{length, length-append}
 use lib.Dec.{eqb}
 use borrow.Author.Tests.{eqb-true, eq-eqb, le-leb}
+use Rattle.refusals.specs.Refusal.{limit}
 use Rattle.fields.specs.Lists.{flat, Each, clash}
 use Rattle.fields.specs.Word.{and-inv}
 use Rattle.fields.specs.Answer.{accepted, accepted-inj}
 use Rattle.gdb_format.specs.Trace.{Frame, Trace, traceOf, opening, putFrame, encode}
 use Rattle.gdb_format.specs.Lines.{registerSize}
-use Rattle.gdb_format.specs.Layout.{LinesFit, FrameFits, limit, Layout}
+use Rattle.gdb_format.specs.Layout.{LinesFit, FrameFits, Layout}
 use Rattle.gdb_format.specs.Settings.{settingsOf}
 use Rattle.gdb_format.specs.Decode.{openingLines, decode, read}
 use Rattle.gdb_format.specs.ExactLines.{exact-opening}

@@ -9,12 +9,11 @@ use lib.ListN.{length, take, drop, length-append, length-drop}
 use lib.Seq.{take-at}
 use lib.Dec.{leb}
 use borrow.Author.Tests.{le-leb, lt-leb, leb-true}
-use Rattle.refusals.specs.Refusal.{tooLong, openingsDiffer}
+use Rattle.refusals.specs.Refusal.{limit, tooLong, openingsDiffer}
 use Rattle.fields.specs.Lists.{flat}
 use Rattle.fields.specs.Number.{Bytes}
 use Rattle.fields.specs.Answer.{Answer, accepted, refused, next-inv, refused-inv, cond-inv, never, accepted-one}
 use Rattle.gdb_format.specs.Trace.{Trace, opening, putFrame, encode}
-use Rattle.gdb_format.specs.Layout.{limit}
 use Rattle.gdb_format.specs.Settings.{settingsOf}
 use Rattle.gdb_format.specs.Decode.{read}
 use Rattle.gdb_format.specs.Exactness.{read-exactness}

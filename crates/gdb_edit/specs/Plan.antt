@@ -6,10 +6,10 @@ use mathlib.Core.Bool.{true}
 use Prim.Native.Nat.{ℕ, _≤_}
 use mathlib.Core.List.{List, []}
 use lib.ListN.{length, take}
+use Rattle.refusals.specs.Refusal.{limit}
 use Rattle.fields.specs.Number.{Bytes}
 use Rattle.fields.specs.Answer.{Answer, accepted, refused}
 use Rattle.gdb_format.specs.Trace.{Trace, traceOf, opening, encode}
-use Rattle.gdb_format.specs.Layout.{limit}
 use Rattle.gdb_format.specs.Decode.{read}
 use Rattle.gdb_format.specs.declared.Settings.{Settings}
 use Rattle.gdb_format.specs.declared.Format.{Format}

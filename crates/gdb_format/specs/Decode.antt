@@ -6,7 +6,7 @@ use Prim.Native.Nat.{ℕ}
 use mathlib.Core.List.{List, [], _∷_, _++_}
 use lib.ListN.{length}
 use lib.Dec.{leb, eqb}
-use Rattle.refusals.specs.Refusal.{tooLong, badHead, noEmptyLine, badLine, shortHead, dataPastFile, badLetter, blockPastData, noRegisterSize}
+use Rattle.refusals.specs.Refusal.{limit, tooLong, badHead, noEmptyLine, badLine, shortHead, dataPastFile, badLetter, blockPastData, noRegisterSize}
 use Rattle.fields.specs.Signed.{signed64}
 use Rattle.fields.specs.Word.{starts}
 use Rattle.fields.specs.Answer.{Answer, accepted, refused, next}
@@ -14,7 +14,6 @@ use Rattle.fields.specs.Reader.{Reader, _>>=_, give, refuse, bytes, num, fillin
 use Rattle.fields.specs.declared.Order.the-variants.{Little}
 use Rattle.gdb_format.specs.Trace.{Block, registers, memory, variable, Frame, Trace, traceOf, head}
 use Rattle.gdb_format.specs.Lines.{mayFollow, registerSize}
-use Rattle.gdb_format.specs.Layout.{limit}
 use Rattle.gdb_format.specs.Settings.{settingsOf}
 use Rattle.gdb_format.specs.declared.Settings.{Settings}
 use Rattle.gdb_format.specs.declared.Format.{Format}

@@ -7,14 +7,14 @@ use mathlib.Core.List.{List, [], _++_}
 use lib.ListN.{length}
 use lib.Dec.{leb}
 use borrow.Author.Tests.{leb-true, le-leb}
-use Rattle.refusals.specs.Refusal.{tooLong}
+use Rattle.refusals.specs.Refusal.{limit, tooLong}
 use Rattle.fields.specs.Lists.{flat, Each}
 use Rattle.fields.specs.Number.{Bytes, bytes-back}
 use Rattle.fields.specs.Answer.{Answer, accepted, next, accepted-inj, next-inv, cond-inv}
 use Rattle.gdb_format.specs.Settings.{settingsOf}
 use Rattle.gdb_format.specs.Trace.{Frame, Trace, traceOf, putFrame, opening, encode}
 use Rattle.gdb_format.specs.Lines.{registerSize}
-use Rattle.gdb_format.specs.Layout.{LinesFit, FrameFits, limit, Layout}
+use Rattle.gdb_format.specs.Layout.{LinesFit, FrameFits, Layout}
 use Rattle.gdb_format.specs.Decode.{openingLines, frames, trace, decode, read}
 use Rattle.gdb_format.specs.ExactFrame.{frames-back, frames-forth}
 use Rattle.gdb_format.specs.ExactLines.{exact-opening}

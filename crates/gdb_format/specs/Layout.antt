@@ -6,6 +6,7 @@ use mathlib.Core.Option.{Option, some}
 use Prim.Native.Nat.{ℕ, _^_, _<_, _≤_}
 use mathlib.Core.List.{List, [], _∷_, _++_}
 use lib.ListN.{length}
+use Rattle.refusals.specs.Refusal.{limit}
 use Rattle.fields.specs.Lists.{Each}
 use Rattle.fields.specs.Signed.{Signed64}
 use Rattle.gdb_format.specs.Trace.{Block, registers, memory, variable, Frame, Trace, dataOf, encode}
@@ -30,10 +31,6 @@ BlockFits size (variable n v) = (n < 2 ^ 32) × Signed64 v
 
 abbrev pub FrameFits : Format → Option ℕ → Frame → Type 0
 FrameFits f size r = (r .tracepoint < 2 ^ 16) × (length (dataOf f r) < 2 ^ 32) × Each (BlockFits size) (r .blocks)
-
--- the longest file, 64 MiB
-abbrev pub limit : ℕ
-limit = 67108864
 
 pub record Layout (f : Format) (t : Trace) : Type 0 where
   pub lines-fit : LinesFit f [] (t .lines)

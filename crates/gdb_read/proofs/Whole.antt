@@ -7,13 +7,12 @@ use mathlib.Core.List.{List, _++_}
 use lib.ListN.{length, drop}
 use lib.Seq.{drop-at}
 use borrow.Author.Tests.{le-leb, lt-leb}
-use Rattle.refusals.specs.Refusal.{tooLong}
+use Rattle.refusals.specs.Refusal.{limit, tooLong}
 use Rattle.fields.specs.Number.{Bytes}
 use Rattle.fields.specs.Answer.{Answer, accepted, refused, next, refused-inv, next-inv, accepted-one, accepted-inj}
 use Rattle.gdb_format.specs.Settings.{settingsOf}
 use Rattle.gdb_format.specs.Trace.{Trace, traceOf, opening}
 use Rattle.gdb_format.specs.Lines.{registerSize}
-use Rattle.gdb_format.specs.Layout.{limit}
 use Rattle.gdb_format.specs.Decode.{openingLines, frames, trace, decode, read}
 use Rattle.gdb_format.specs.ExactLines.{exact-opening}
 use Rattle.gdb_format.specs.Opening.{openingSeen}

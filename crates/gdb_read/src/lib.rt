@@ -15,6 +15,7 @@ use gdb_format::Settings;
 use refusals::BAD_LETTER;
 use refusals::BLOCK_PAST_DATA;
 use refusals::DATA_PAST_FILE;
+use refusals::LIMIT;
 use refusals::NO_REGISTER_SIZE;
 use refusals::SHORT_HEAD;
 use refusals::TOO_LONG;
@@ -249,9 +250,6 @@ pub enum Reading {
     Accepted(Opened),
     Refused(u8),
 }
-
-// The longest file, 64 MiB.
-pub const LIMIT: usize = 67108864;
 
 fn read_as(format: Format, file: &[u8]) -> Reading
     ensures { λ r. ⌜ readingMeaning r ≡ summaryIn format (decode format (now (file .entry))) ⌝ }

@@ -6,12 +6,12 @@ use native.Mathlib.Omega.{arith}
 use mathlib.Core.List.{[], _∷_}
 use lib.ListN.{length, replicate, length-replicate, length-append}
 use borrow.Author.Tests.{lt-leb}
-use Rattle.refusals.specs.Refusal.{tooLong}
+use Rattle.refusals.specs.Refusal.{limit, tooLong}
 use Rattle.fields.specs.Lists.{flat}
 use Rattle.fields.specs.Number.{length-field}
 use Rattle.fields.specs.Answer.{accepted, refused}
 use Rattle.gdb_format.specs.Trace.{Trace, traceOf, putFrame, opening, encode}
-use Rattle.gdb_format.specs.Layout.{NoEnd, limit}
+use Rattle.gdb_format.specs.Layout.{NoEnd}
 use Rattle.gdb_format.specs.Settings.{settingsOf}
 use Rattle.gdb_format.specs.Decode.{decode, read}
 use Rattle.gdb_format.specs.declared.Settings.{Settings}

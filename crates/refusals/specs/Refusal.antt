@@ -2,7 +2,11 @@
 -- Assumes nothing: these are definitions.
 use Prim.Native.Nat.{ℕ}
 
--- a file, or a join's result, is longer than 67,108,864 bytes
+-- the longest file, 64 MiB
+abbrev pub limit : ℕ
+limit = 67108864
+
+-- a file, or a join's result, is longer than that
 abbrev pub tooLong : ℕ
 tooLong = 1
 

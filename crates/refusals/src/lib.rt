@@ -1,6 +1,9 @@
 // The numbers returned on refusal, as document 01's table has them. specs/Refusal.antt gives the same names.
 
-// A file, or a join's result, is longer than 67,108,864 bytes.
+// The longest file, 64 MiB.
+pub const LIMIT: usize = 67108864;
+
+// A file, or a join's result, is longer than that.
 pub const TOO_LONG: u8 = 1;
 // An argument is wrong: the byte order, or a selection.
 pub const BAD_ARGUMENT: u8 = 2;

@@ -1,0 +1,10 @@
+pub mod Pieces
+pub mod Header
+pub mod Layout
+pub mod Pages
+pub mod Decode
+pub mod ExactPieces
+pub mod ExactSections
+pub mod ExactTail
+pub mod Exactness
+pub mod Entries

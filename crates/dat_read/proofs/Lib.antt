@@ -1,0 +1,5 @@
+pub mod PieceLaws
+pub mod OpeningLaws
+pub mod SectionLaws
+pub mod TailLaws
+pub mod WalkLaws

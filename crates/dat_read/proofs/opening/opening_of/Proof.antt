@@ -1,0 +1,56 @@
+-- `dat_read::opening::opening_of` meets its contract. Assumes nothing.
+use mathlib.Core.Path.{sym, ap, _∙_}
+use Rattle.fields.specs.Number.{bytes-all}
+use Rattle.fields.specs.Got.{passed}
+use Rattle.dat_format.specs.Header.{magic, tracing, version}
+use Rattle.dat_format.specs.ExactPieces.{exact-fixed}
+use Rattle.dat_read.specs.Steps.{stepMeaning}
+use Rattle.dat_read.proofs.OpeningLaws.{Fixed, bad-magic, bad-tracing, bad-version, opening-read}
+use borrow.Author.Needs.{needs}
+use native.Mathlib.Omega.{arith}
+use Rattle.dat_read.proofs.opening.opening_of.Statement.{statement}
+use Rattle.dat_read.proofs.opening.opening_of.Tie as tie
+
+the-magic : (c : tie.After-a) → Fixed magic (c .before .before .before .before .before .args .s .now) 0 (c .a .given .0 .0)
+the-magic c =
+    let s = c .before .before .before .before .before .args .s .now in
+    passed (exact-fixed magic) s (bytes-all s (λ i. omega (arith, c .before .before .before .before .shared-slice-known .given i))) 0 (omega arith) (c .a .given .0 .0) (ap stepMeaning (sym (c .a .given .1)) ∙ c .before .before .fixed-at .ensures)
+
+the-tracing : (c : tie.After-b) → Fixed tracing (c .before .before .before .before .before .before .before .before .before .before .args .s .now) (c .before .before .before .before .before .a .given .0 .0) (c .b .given .0 .0)
+the-tracing c =
+    let s = c .before .before .before .before .before .before .before .before .before .before .args .s .now in
+    passed (exact-fixed tracing) s (bytes-all s (λ i. omega (arith, c .before .before .before .before .before .before .before .before .before .shared-slice-known .given i))) (c .before .before .before .before .before .a .given .0 .0) (the-magic (c .before .before .before .before .before) .inside) (c .b .given .0 .0)
+    (ap stepMeaning (sym (c .b .given .1)) ∙ c .before .before .fixed-at2 .ensures)
+
+the-version : (c : tie.After-c) → Fixed version (c .before .before .before .before .before .before .before .before .before .before .before .before .before .before .before .args .s .now) (c .before .before .before .before .before .b .given .0 .0) (c .c .given .0 .0)
+the-version c =
+    let s = c .before .before .before .before .before .before .before .before .before .before .before .before .before .before .before .args .s .now in
+    passed (exact-fixed version) s (bytes-all s (λ i. omega (arith, c .before .before .before .before .before .before .before .before .before .before .before .before .before .before .shared-slice-known .given i))) (c .before .before .before .before .before .b .given .0 .0) (the-tracing (c .before .before .before .before .before) .inside) (c .c .given .0 .0)
+    (ap stepMeaning (sym (c .c .given .1)) ∙ c .before .before .fixed-at3 .ensures)
+
+fixed-at-requires-2 : tie.Need-fixed-at-requires-2
+fixed-at-requires-2 c κs = the-magic (c .before .before) .inside
+
+fixed-at-requires-3 : tie.Need-fixed-at-requires-3
+fixed-at-requires-3 c κs = the-tracing (c .before .before) .inside
+
+flags-at-requires : tie.Need-flags-at-requires
+flags-at-requires c κs = the-version (c .before) .inside
+
+returns : tie.Need-returns
+returns c = bad-magic (c .before .before .before .before .before .before .args .s .now) (c .before .n .given .0 .0) (ap stepMeaning (sym (c .before .n .given .1)) ∙ c .before .before .before .fixed-at .ensures)
+
+returns-2 : tie.Need-returns-2
+returns-2 c = bad-tracing (c .before .before .before .before .before .before .before .before .before .before .before .args .s .now) _ (the-magic (c .before .before .before .before .before .before)) (c .before .n2 .given .0 .0) (ap stepMeaning (sym (c .before .n2 .given .1)) ∙ c .before .before .before .fixed-at2 .ensures)
+
+returns-3 : tie.Need-returns-3
+returns-3 c =
+    bad-version (c .before .before .before .before .before .before .before .before .before .before .before .before .before .before .before .before .args .s .now) _ (the-magic (c .before .before .before .before .before .before .before .before .before .before .before)) _ (the-tracing (c .before .before .before .before .before .before)) (c .before .n3 .given .0 .0) (ap stepMeaning (sym (c .before .n3 .given .1)) ∙ c .before .before .before .fixed-at3 .ensures)
+
+returns-4 : tie.Need-returns-4
+returns-4 c = opening-read (c .before .before .before .before .before .before .before .before .before .before .before .before .before .before .before .before .before .args .s .now) _ (the-magic (c .before .before .before .before .before .before .before .before .before .before .before .before)) _ (the-tracing (c .before .before .before .before .before .before .before)) _ (the-version (c .before .before)) _ (c .flags-at .ensures)
+
+pub opening-of-spec : {M : Type 1} → statement M
+opening-of-spec =
+    tie.close
+    (tie.spec (λ c. search needs) (λ c κs. search needs) (λ c. search needs) (λ c. search needs) (λ c. search needs) fixed-at-requires-2 (λ c. search needs) (λ c. search needs) (λ c. search needs) fixed-at-requires-3 (λ c. search needs) (λ c. search needs) flags-at-requires returns returns-2 returns-3 returns-4)

@@ -1,0 +1,29 @@
+-- `dat_read::tail::ending_at` meets its contract. Assumes nothing.
+use mathlib.Core.Path.{sym, ap, _∙_}
+use Rattle.dat_read.specs.Steps.{stepMeaning, wordSaid}
+use Rattle.dat_read.proofs.TailLaws.{again, text, bad-entries, with-entries}
+use borrow.Author.Needs.{needs}
+use native.Mathlib.Omega.{arith}
+use Rattle.dat_read.proofs.tail.ending_at.Statement.{statement}
+use Rattle.dat_read.proofs.tail.ending_at.Tie as tie
+
+returns : tie.Need-returns
+returns c = let a = c .before .before .before .args in again (a .order) (a .cpus) (a .options) (a .s .now) (a .at) (omega arith) _ (ap wordSaid (c .enum-told .given .1))
+
+returns-2 : tie.Need-returns-2
+returns-2 c = let a = c .before .before .before .args in text (a .order) (a .cpus) (a .options) (a .s .now) (a .at) (omega arith) _ (ap wordSaid (c .enum-told2 .given .1))
+
+returns-3 : tie.Need-returns-3
+returns-3 c =
+    let a = c .before .before .before .before .before .before .before .args in
+    bad-entries (a .order) (a .cpus) (a .options) (a .s .now) (a .at) (omega arith) _ (ap wordSaid (c .before .before .before .before .enum-told3 .given .1)) _ (ap stepMeaning (sym (c .before .n .given .1)) ∙ c .before .before .before .entries-at .ensures)
+
+returns-4 : tie.Need-returns-4
+returns-4 c =
+    let a = c .before .before .before .before .before .before .before .args in
+    with-entries (a .order) (a .cpus) (a .options) (a .s .now) (a .at) (omega arith) _ (ap wordSaid (c .before .before .before .before .enum-told3 .given .1)) _ (ap stepMeaning (sym (c .before .next .given .1)) ∙ c .before .before .before .entries-at .ensures)
+
+pub ending-at-spec : {M : Type 1} → statement M
+ending-at-spec =
+    tie.close
+    (tie.spec (λ c. search needs) (λ c. search needs) (λ c. search needs) (λ c κs. search needs) (λ c. search needs) (λ c. search needs) returns returns-2 returns-3 returns-4)

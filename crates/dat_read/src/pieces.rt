@@ -1,0 +1,84 @@
+// The pieces that a header is made of: fixed strings and data behind their size.
+ghost use mathlib.Core.Path.{_≡_};
+ghost use Prim.Native.Nat.{_≤_};
+ghost use lib.ListN.{length};
+ghost use Rattle.fields.specs.Number.{wordAt};
+ghost use Rattle.fields.specs.Reader.{passAt};
+ghost use Rattle.dat_format.specs.Pieces.{fixed, after, sized};
+ghost use Rattle.dat_read.specs.Steps.{stepMeaning, bytesOf};
+use fields::Order;
+use refusals::BAD_CONSTANT;
+use refusals::FIELD_PAST_FILE;
+
+// The place after what a step read, or a refusal.
+pub(crate) enum Step {
+    Next(usize),
+    Refused(u8),
+}
+
+// A fixed string at `at`.
+pub(crate) fn fixed_at<'a>(s: &'a [u8], word: &'a [u8], at: usize) -> Step
+    requires { ⌜ at ≤ length (now s) ⌝ }
+    ensures { λ r. ⌜ stepMeaning r ≡ passAt (fixed (now (word .entry))) (now (s .entry)) at ⌝ }
+{
+    let n = word.len();
+    if s.len() - at < n {
+        return Step::Refused(FIELD_PAST_FILE);
+    }
+    if fields::begins(&s[at..], word) {
+        return Step::Next(at + n);
+    }
+    Step::Refused(BAD_CONSTANT)
+}
+
+// How many bytes a size field has.
+pub(crate) enum Width {
+    Four,
+    Eight,
+}
+
+fn bytes_of(width: Width) -> usize
+    ensures { λ r. ⌜ r ≡ bytesOf width ⌝ }
+{
+    match width {
+        Width::Four => 4,
+        Width::Eight => 8,
+    }
+}
+
+fn size_at(s: &[u8], order: Order, width: Width, at: usize) -> u64
+    ensures { λ r. ⌜ r ≡ wordAt order (bytesOf width) (now (s .entry)) at ⌝ }
+{
+    match width {
+        Width::Four => fields::u32_at(s, order, at) as u64,
+        Width::Eight => fields::u64_at(s, order, at),
+    }
+}
+
+// A size at `at`, and that many bytes.
+pub(crate) fn sized_at(s: &[u8], order: Order, width: Width, at: usize) -> Step
+    requires { ⌜ at ≤ length (now s) ⌝ }
+    ensures { λ r. ⌜ stepMeaning r ≡ passAt (sized order (bytesOf width)) (now (s .entry)) at ⌝ }
+{
+    let w = bytes_of(width);
+    if s.len() - at < w {
+        return Step::Refused(FIELD_PAST_FILE);
+    }
+    let n = size_at(s, order, width, at) as usize;
+    let body = at + w;
+    if s.len() - body < n {
+        return Step::Refused(FIELD_PAST_FILE);
+    }
+    Step::Next(body + n)
+}
+
+// A fixed string at `at`, an 8-byte size, and that many bytes.
+pub(crate) fn piece_at<'a>(s: &'a [u8], order: Order, word: &'a [u8], at: usize) -> Step
+    requires { ⌜ at ≤ length (now s) ⌝ }
+    ensures { λ r. ⌜ stepMeaning r ≡ passAt (after (now (word .entry)) (sized order 8)) (now (s .entry)) at ⌝ }
+{
+    match fixed_at(s, word, at) {
+        Step::Refused(n) => Step::Refused(n),
+        Step::Next(next) => sized_at(s, order, Width::Eight, next),
+    }
+}

@@ -1,0 +1,36 @@
+-- `tracedat::ranges::in_file` meets its contract. Assumes nothing.
+use mathlib.Core.Path.{sym, _∙_}
+use borrow.Author.Tests.{not-true, not-false}
+use Rattle.tracedat.proofs.RangeLaws.{empty-in, misaligned, too-early, too-large, up-to-end}
+use borrow.Author.Needs.{needs}
+use native.Mathlib.Omega.{arith}
+use Rattle.tracedat.proofs.ranges.in_file.Statement.{statement}
+use Rattle.tracedat.proofs.ranges.in_file.Tie as tie
+
+returns : tie.Need-returns
+returns c = let a = c .before .args in empty-in (a .page) (a .end) (a .total) (a .offset) (a .size) (c .if1 .taken)
+
+returns-2 : tie.Need-returns-2
+returns-2 c =
+    let a = c .before .before .before .args in
+    misaligned (a .page) (a .end) (a .total) (a .offset) (a .size) (c .before .before .if1 .left) (sym (c .before .is-aligned .ensures) ∙ not-true _ (c .if2 .taken))
+
+returns-3 : tie.Need-returns-3
+returns-3 c =
+    let a = c .before .before .before .before .args in
+    too-early (a .page) (a .end) (a .total) (a .offset) (a .size) (c .before .before .before .if1 .left) (sym (c .before .before .is-aligned .ensures) ∙ not-false _ (c .before .if2 .left)) (omega arith)
+
+returns-4 : tie.Need-returns-4
+returns-4 c =
+    let a = c .before .before .before .before .before .args in
+    too-large (a .page) (a .end) (a .total) (a .offset) (a .size) (c .before .before .before .before .if1 .left) (sym (c .before .before .before .is-aligned .ensures) ∙ not-false _ (c .before .before .if2 .left)) (omega arith) (omega arith)
+
+returns-5 : tie.Need-returns-5
+returns-5 c =
+    let a = c .before .before .before .before .before .args in
+    up-to-end (a .page) (a .end) (a .total) (a .offset) (a .size) (c .before .before .before .before .if1 .left) (sym (c .before .before .before .is-aligned .ensures) ∙ not-false _ (c .before .before .if2 .left)) (omega arith) (omega arith)
+
+pub in-file-spec : {M : Type 1} → statement M
+in-file-spec =
+    tie.close
+    (tie.spec returns (λ c κs. search needs) returns-2 returns-3 returns-4 returns-5)

@@ -1,0 +1,34 @@
+-- The questions about a trace.dat file, and what their answers mean.
+-- Assumes nothing: these are definitions.
+use Prim.Native.Nat.{ℕ}
+use mathlib.Core.List.{List}
+use lib.ListN.{length}
+use Rattle.fields.specs.Answer.{Answer, accepted, refused, next}
+use Rattle.dat_format.specs.Header.{Range}
+use Rattle.dat_format.specs.Layout.{ranges}
+use Rattle.dat_format.specs.Decode.{decode}
+use Rattle.dat_format.specs.Entries.{nth}
+use Rattle.dat_read.specs.Summary as parts
+use Rattle.dat_read.specs.declared.summary.Summary.{Summary}
+use Rattle.tracedat.specs.Ranges.{rangeOf}
+use Rattle.tracedat.specs.declared.SummaryAnswer.{SummaryAnswer}
+use Rattle.tracedat.specs.declared.SummaryAnswer.the-variants as summaryanswer
+use Rattle.tracedat.specs.declared.RangeAnswer.{RangeAnswer}
+use Rattle.tracedat.specs.declared.RangeAnswer.the-variants as rangeanswer
+
+-- the summary of the header that was read
+unfoldable pub summed : List ℕ → Answer Summary
+summed b = next (decode b) (λ h. accepted (parts.summary (length b) h))
+
+-- CPU i's range as stored; 12 where there is no such CPU, and a latency file has none
+unfoldable pub cpuRange : ℕ → List ℕ → Answer Range
+cpuRange i b = next (decode b) (λ h. nth (ranges (h .tail .ending)) i)
+
+-- what `SummaryAnswer` and `RangeAnswer` say
+abbrev pub summaryAnswer : SummaryAnswer → Answer Summary
+summaryAnswer (summaryanswer.Accepted s) = accepted s
+summaryAnswer (summaryanswer.Refused n) = refused n
+
+abbrev pub rangeAnswer : RangeAnswer → Answer Range
+rangeAnswer (rangeanswer.Range a n) = accepted (rangeOf a n)
+rangeAnswer (rangeanswer.Refused n) = refused n

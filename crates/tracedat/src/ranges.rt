@@ -1,0 +1,110 @@
+// What a trace.dat file asks of its CPU ranges.
+ghost use mathlib.Core.Path.{_≡_};
+ghost use Prim.Native.Nat.{_+_, _*_, _<_, _≤_};
+ghost use lib.ListN.{length};
+ghost use Rattle.dat_format.specs.Layout.{aligned, inFile, apart, all, allApart};
+ghost use Rattle.dat_format.specs.Entries.{entries};
+ghost use Rattle.tracedat.specs.Ranges.{rangeOf, testOf, testFits};
+use fields::Order;
+
+// Whether an offset is a multiple of the page size.
+fn is_aligned(page: u64, offset: u64) -> bool
+    requires { ⌜ 0 < page ⌝ }
+    ensures { λ r. ⌜ r ≡ aligned page offset ⌝ }
+{
+    offset % page == 0
+}
+
+// Whether a CPU's range lies in a file of length `total` whose header ends at `end`. Nothing is added: offset and size may each be
+// as large as 64 bits hold.
+fn in_file(page: u64, end: u64, total: u64, offset: u64, size: u64) -> bool
+    requires { ⌜ 0 < page ⌝ }
+    ensures { λ r. ⌜ r ≡ inFile page end total (rangeOf offset size) ⌝ }
+{
+    if size == 0 {
+        return true;
+    }
+    if !is_aligned(page, offset) {
+        return false;
+    }
+    if offset < end {
+        return false;
+    }
+    if total < size {
+        return false;
+    }
+    offset <= total - size
+}
+
+// Whether two CPUs' ranges do not overlap.
+fn are_apart(offset: u64, size: u64, start: u64, length: u64) -> bool
+    ensures { λ r. ⌜ r ≡ apart (rangeOf offset size) (rangeOf start length) ⌝ }
+{
+    if size == 0 {
+        return true;
+    }
+    if length == 0 {
+        return true;
+    }
+    if offset <= start {
+        return size <= start - offset;
+    }
+    length <= offset - start
+}
+
+// A test that each of several ranges may pass.
+pub(crate) enum Test {
+    InFile { page: u64, end: u64, total: u64 },
+    Apart { offset: u64, size: u64 },
+}
+
+fn passes(test: Test, offset: u64, size: u64) -> bool
+    requires { ⌜ testFits test ⌝ }
+    ensures { λ r. ⌜ r ≡ testOf test (rangeOf offset size) ⌝ }
+{
+    match test {
+        Test::InFile { page, end, total } => in_file(page, end, total, offset, size),
+        Test::Apart {
+            offset: first,
+            size: length,
+        } => are_apart(first, length, offset, size),
+    }
+}
+
+// Whether each of n entries from `from` on passes.
+pub(crate) fn all_pass(s: &[u8], order: Order, test: Test, n: u32, from: usize) -> bool
+    requires { ⌜ testFits test × (from + 16 * n ≤ length (now s)) ⌝ }
+    ensures { λ r. ⌜ r ≡ all (testOf test) (entries order (now (s .entry)) n from) ⌝ }
+{
+    let mut at = from;
+    let mut left = n;
+    while 0 < left {
+        let offset = fields::u64_at(s, order, at);
+        let size = fields::u64_at(s, order, at + 8);
+        if !passes(test, offset, size) {
+            return false;
+        }
+        at += 16;
+        left -= 1;
+    }
+    true
+}
+
+// Whether no two of n entries from `from` on overlap.
+pub(crate) fn all_apart(s: &[u8], order: Order, n: u32, from: usize) -> bool
+    requires { ⌜ from + 16 * n ≤ length (now s) ⌝ }
+    ensures { λ r. ⌜ r ≡ allApart (entries order (now (s .entry)) n from) ⌝ }
+{
+    let mut at = from;
+    let mut left = n;
+    while 0 < left {
+        let offset = fields::u64_at(s, order, at);
+        let size = fields::u64_at(s, order, at + 8);
+        at += 16;
+        left -= 1;
+        if !all_pass(s, order, Test::Apart { offset, size }, left, at) {
+            return false;
+        }
+    }
+    true
+}
