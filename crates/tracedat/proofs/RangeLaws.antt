@@ -1,8 +1,8 @@
 -- The tests of CPU ranges, case by case, and a turn of the walks over the entries.
 -- Assumes nothing.
-use mathlib.Core.Path.{_≡_, refl, sym, _∙_}
+use mathlib.Core.Path.{_≡_, refl, sym, ap, _∙_}
 use mathlib.Core.Bool.{Bool, true, false, _&&_, _||_}
-use Prim.Native.Nat.{ℕ, zero, suc, _+_, _-_, _<_, _≤_}
+use Prim.Native.Nat.{ℕ, zero, suc, _+_, _-_, _%_, _^_, _<_, _≤_}
 use native.Mathlib.Nat.{lt-of-not-le}
 use native.Mathlib.Decide.{decLe}
 use native.Mathlib.Omega.{arith}
@@ -26,6 +26,14 @@ or-no : (b : Bool) → b || false ≡ b
 or-no true = refl
 or-no false = refl
 
+-- the sum, taken modulo 2 ^ 64: it is below the offset exactly where it wraps
+module _ (total a n r : ℕ) (ft : total < 2 ^ 64) (fa : a < 2 ^ 64) (fn : n < 2 ^ 64) (e : r ≡ (a + n) % 2 ^ 64) where
+  pub wraps : r < a → false ≡ leb (a + n) total
+  wraps h = sym (lt-leb (a + n) total (omega arith))
+
+  pub no-wrap : a ≤ r → leb r total ≡ leb (a + n) total
+  no-wrap h = let q : r ≡ a + n = omega arith in ap (λ k. leb k total) q
+
 module _ (page end total a n : ℕ) where
   pub empty-in : n ≡ 0 → true ≡ inFile page end total (rangeOf a n)
   empty-in e = rw e
@@ -38,12 +46,8 @@ module _ (page end total a n : ℕ) where
       pub too-early : a < end → false ≡ inFile page end total (rangeOf a n)
       too-early h = rw (ne-eqb n 0 z, e, lt-leb end a h)
 
-      module _ (h : end ≤ a) where
-        pub too-large : total < n → false ≡ inFile page end total (rangeOf a n)
-        too-large k = rw (ne-eqb n 0 z, e, le-leb end a h, lt-leb (a + n) total (omega arith))
-
-        pub up-to-end : n ≤ total → leb a (total - n) ≡ inFile page end total (rangeOf a n)
-        up-to-end k = rw (ne-eqb n 0 z, e, le-leb end a h) (leb-iff a (total - n) (a + n) total (λ p. omega arith) (λ p. omega arith))
+      pub up-to-end : end ≤ a → (t : Bool) → t ≡ leb (a + n) total → t ≡ inFile page end total (rangeOf a n)
+      up-to-end h t k = k ∙ rw (ne-eqb n 0 z, e, le-leb end a h)
 
 module _ (a n b m : ℕ) where
   pub first-empty : n ≡ 0 → true ≡ apart (rangeOf a n) (rangeOf b m)

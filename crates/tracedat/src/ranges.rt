@@ -1,6 +1,7 @@
 // What a trace.dat file asks of its CPU ranges.
 ghost use mathlib.Core.Path.{_≡_};
 ghost use Prim.Native.Nat.{_+_, _*_, _<_, _≤_};
+ghost use lib.Dec.{leb};
 ghost use lib.ListN.{length};
 ghost use Rattle.dat_format.specs.Layout.{aligned, inFile, apart, all, allApart};
 ghost use Rattle.dat_format.specs.Entries.{entries};
@@ -15,8 +16,18 @@ fn is_aligned(page: u64, offset: u64) -> bool
     offset % page == 0
 }
 
-// Whether a CPU's range lies in a file of length `total` whose header ends at `end`. Nothing is added: offset and size may each be
-// as large as 64 bits hold.
+// Whether a range ends within a file of length `total`, offset and size added as whole numbers: a sum that wraps is past every file.
+fn ends_within(total: u64, offset: u64, size: u64) -> bool
+    ensures { λ r. ⌜ r ≡ leb (offset + size) total ⌝ }
+{
+    let end = std::num::wrapping_add_u64(offset, size);
+    if end < offset {
+        return false;
+    }
+    end <= total
+}
+
+// Whether a CPU's range lies in a file of length `total` whose header ends at `end`.
 fn in_file(page: u64, end: u64, total: u64, offset: u64, size: u64) -> bool
     requires { ⌜ 0 < page ⌝ }
     ensures { λ r. ⌜ r ≡ inFile page end total (rangeOf offset size) ⌝ }
@@ -30,26 +41,23 @@ fn in_file(page: u64, end: u64, total: u64, offset: u64, size: u64) -> bool
     if offset < end {
         return false;
     }
-    if total < size {
-        return false;
-    }
-    offset <= total - size
+    ends_within(total, offset, size)
 }
 
 // Whether two CPUs' ranges do not overlap.
-fn are_apart(offset: u64, size: u64, start: u64, length: u64) -> bool
-    ensures { λ r. ⌜ r ≡ apart (rangeOf offset size) (rangeOf start length) ⌝ }
+fn are_apart(first: u64, first_size: u64, second: u64, second_size: u64) -> bool
+    ensures { λ r. ⌜ r ≡ apart (rangeOf first «first_size») (rangeOf second «second_size») ⌝ }
 {
-    if size == 0 {
+    if first_size == 0 {
         return true;
     }
-    if length == 0 {
+    if second_size == 0 {
         return true;
     }
-    if offset <= start {
-        return size <= start - offset;
+    if first <= second {
+        return first_size <= second - first;
     }
-    length <= offset - start
+    second_size <= first - second
 }
 
 // A test that each of several ranges may pass.
@@ -66,14 +74,14 @@ fn passes(test: Test, offset: u64, size: u64) -> bool
         Test::InFile { page, end, total } => in_file(page, end, total, offset, size),
         Test::Apart {
             offset: first,
-            size: length,
-        } => are_apart(first, length, offset, size),
+            size: first_size,
+        } => are_apart(first, first_size, offset, size),
     }
 }
 
 // Whether each of n entries from `from` on passes.
 pub(crate) fn all_pass(s: &[u8], order: Order, test: Test, n: u32, from: usize) -> bool
-    requires { ⌜ testFits test × (from + 16 * n ≤ length (now s)) ⌝ }
+    requires { ⌜ testFits test × (from ≤ length (now s)) ⌝ }
     ensures { λ r. ⌜ r ≡ all (testOf test) (entries order (now (s .entry)) n from) ⌝ }
 {
     let mut at = from;

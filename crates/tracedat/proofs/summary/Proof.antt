@@ -27,7 +27,7 @@ all-pass-requires : tie.Need-all-pass-requires
 all-pass-requires c κs =
     let s = c .before .before .before .before .before .before .before .before .before .before .args .file .now in
     let r = summarised s (all-bytes (c .before .before .before .before .before)) (omega arith) (c .before .before .before .before .before .summary .given .0 .0) (c .before .before .before .before .before .summary .given .0 .1 .0) (walked (c .before .before .before .before .before)) in
-    (page-some s _ r, room s _ r (c .before .before .enum-told2 .given .1))
+    (page-some s _ r, omega (arith, room s _ r (c .before .before .enum-told2 .given .1)))
 
 returns-2 : tie.Need-returns-2
 returns-2 c =

@@ -15,13 +15,13 @@ use Rattle.tracedat.proofs.ranges.all_pass.Tie as tie
 
 abbrev Inv-loop : tie.InvT-loop
 Inv-loop s order test n from at₀ left₀ at left =
-    (at + 16 * left ≤ length s) × (all (testOf test) (entries order s left at) ≡ all (testOf test) (entries order s n from))
+    (at + 16 * left ≤ length s + 16 * n) × (all (testOf test) (entries order s left at) ≡ all (testOf test) (entries order s n from))
 
 abbrev μ-loop : tie.MeasureT-loop
 μ-loop s order test n from at₀ left₀ at left = left
 
 loop-holds : tie.Need-loop-holds Inv-loop μ-loop
-loop-holds c = (c .before .pre .1, refl)
+loop-holds c = (omega arith, refl)
 
 add-u64-at : tie.Need-add-u64-at Inv-loop μ-loop
 add-u64-at c = omega arith

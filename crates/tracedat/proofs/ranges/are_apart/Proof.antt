@@ -6,16 +6,16 @@ use Rattle.tracedat.proofs.ranges.are_apart.Statement.{statement}
 use Rattle.tracedat.proofs.ranges.are_apart.Tie as tie
 
 returns : tie.Need-returns
-returns c = let a = c .before .args in first-empty (a .offset) (a .size) (a .start) (a .length) (c .if1 .taken)
+returns c = let a = c .before .args in first-empty (a .first) (a .first-size) (a .second) (a .second-size) (c .if1 .taken)
 
 returns-2 : tie.Need-returns-2
-returns-2 c = let a = c .before .before .args in second-empty (a .offset) (a .size) (a .start) (a .length) (c .before .if1 .left) (c .if2 .taken)
+returns-2 c = let a = c .before .before .args in second-empty (a .first) (a .first-size) (a .second) (a .second-size) (c .before .if1 .left) (c .if2 .taken)
 
 returns-3 : tie.Need-returns-3
-returns-3 c = let a = c .before .before .before .args in first-low (a .offset) (a .size) (a .start) (a .length) (c .before .before .if1 .left) (c .before .if2 .left) (omega arith)
+returns-3 c = let a = c .before .before .before .args in first-low (a .first) (a .first-size) (a .second) (a .second-size) (c .before .before .if1 .left) (c .before .if2 .left) (omega arith)
 
 returns-4 : tie.Need-returns-4
-returns-4 c = let a = c .before .before .before .args in second-low (a .offset) (a .size) (a .start) (a .length) (c .before .before .if1 .left) (c .before .if2 .left) (omega arith)
+returns-4 c = let a = c .before .before .before .args in second-low (a .first) (a .first-size) (a .second) (a .second-size) (c .before .before .if1 .left) (c .before .if2 .left) (omega arith)
 
 pub are-apart-spec : {M : Type 1} → statement M
 are-apart-spec =

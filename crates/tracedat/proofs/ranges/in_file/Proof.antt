@@ -1,7 +1,7 @@
 -- `tracedat::ranges::in_file` meets its contract. Assumes nothing.
 use mathlib.Core.Path.{sym, _∙_}
 use borrow.Author.Tests.{not-true, not-false}
-use Rattle.tracedat.proofs.RangeLaws.{empty-in, misaligned, too-early, too-large, up-to-end}
+use Rattle.tracedat.proofs.RangeLaws.{empty-in, misaligned, too-early, up-to-end}
 use borrow.Author.Needs.{needs}
 use native.Mathlib.Omega.{arith}
 use Rattle.tracedat.proofs.ranges.in_file.Statement.{statement}
@@ -23,14 +23,9 @@ returns-3 c =
 returns-4 : tie.Need-returns-4
 returns-4 c =
     let a = c .before .before .before .before .before .args in
-    too-large (a .page) (a .end) (a .total) (a .offset) (a .size) (c .before .before .before .before .if1 .left) (sym (c .before .before .before .is-aligned .ensures) ∙ not-false _ (c .before .before .if2 .left)) (omega arith) (omega arith)
-
-returns-5 : tie.Need-returns-5
-returns-5 c =
-    let a = c .before .before .before .before .before .args in
-    up-to-end (a .page) (a .end) (a .total) (a .offset) (a .size) (c .before .before .before .before .if1 .left) (sym (c .before .before .before .is-aligned .ensures) ∙ not-false _ (c .before .before .if2 .left)) (omega arith) (omega arith)
+    up-to-end (a .page) (a .end) (a .total) (a .offset) (a .size) (c .before .before .before .before .if1 .left) (sym (c .before .before .before .is-aligned .ensures) ∙ not-false _ (c .before .before .if2 .left)) (omega arith) _ (c .ends-within .ensures)
 
 pub in-file-spec : {M : Type 1} → statement M
 in-file-spec =
     tie.close
-    (tie.spec returns (λ c κs. search needs) returns-2 returns-3 returns-4 returns-5)
+    (tie.spec returns (λ c κs. search needs) returns-2 returns-3 (λ c κs. search needs) returns-4)

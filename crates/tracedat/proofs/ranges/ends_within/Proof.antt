@@ -1,0 +1,17 @@
+-- `tracedat::ranges::ends_within` meets its contract. Assumes nothing.
+use Rattle.tracedat.proofs.RangeLaws.{wraps, no-wrap}
+use borrow.Author.Needs.{needs}
+use native.Mathlib.Omega.{arith}
+use Rattle.tracedat.proofs.ranges.ends_within.Statement.{statement}
+use Rattle.tracedat.proofs.ranges.ends_within.Tie as tie
+
+returns : tie.Need-returns
+returns c = let a = c .before .before .args in wraps (a .total) (a .offset) (a .size) (c .before .wrapping-add-u64 .result) (omega arith) (omega arith) (omega arith) (c .before .wrapping-add-u64 .ensures) (omega arith)
+
+returns-2 : tie.Need-returns-2
+returns-2 c = let a = c .before .before .args in no-wrap (a .total) (a .offset) (a .size) (c .before .wrapping-add-u64 .result) (omega arith) (omega arith) (omega arith) (c .before .wrapping-add-u64 .ensures) (omega arith)
+
+pub ends-within-spec : {M : Type 1} → statement M
+ends-within-spec =
+    tie.close
+    (tie.spec (λ c κs. search needs) returns returns-2)
