@@ -1,0 +1,19 @@
+"""A proved reader of GDB trace files and of trace.dat headers of version 6.
+
+    with open('board.tf', 'rb') as file, Trace(file.read()) as trace:
+        for frame in trace:
+            print(frame.number, frame.tracepoint, frame.registers[264:280].hex())
+
+What is handed out are parts of the caller's bytes, not copies. A file or a question that the library refuses raises
+Refused, with the number and the sentence of document 01's table."""
+from ._library import LibraryMissing
+from .dat import CpuRange, Section, TraceDat
+from .edit import Selection, cut, cut_into, join, join_into
+from .pair import Pair, PairFrame
+from .refusal import Refusal, Refused
+from .trace import Frame, Line, Memory, Registers, Trace, Variable
+
+__all__ = [
+    'CpuRange', 'Frame', 'LibraryMissing', 'Line', 'Memory', 'Pair', 'PairFrame', 'Refusal', 'Refused', 'Registers',
+    'Section', 'Selection', 'Trace', 'TraceDat', 'Variable', 'cut', 'cut_into', 'join', 'join_into',
+]

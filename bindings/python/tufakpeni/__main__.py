@@ -1,0 +1,73 @@
+"""The command: shows a GDB trace or a trace.dat header as text."""
+import argparse
+import signal
+import sys
+
+from . import view
+from ._library import ORDERS, LibraryMissing
+from .dat import MAGIC, TraceDat
+from .refusal import Refused
+from .trace import Trace
+
+LIMIT = 67_108_864
+REFUSED = 1
+UNREADABLE = 2
+
+
+def arguments(words=None):
+    parser = argparse.ArgumentParser(
+        prog='python -m tufakpeni',
+        description='Shows a GDB trace, or the header of a trace.dat file, as text. Without a choice of what to show: '
+                    'the lines and the frames.')
+    parser.add_argument('file')
+    parser.add_argument('--order', choices=ORDERS, default='little', help='byte order of a GDB trace')
+    parser.add_argument('--lines', action='store_true', help='the lines of the description')
+    parser.add_argument('--frames', action='store_true', help='the frames')
+    parser.add_argument('--blocks', action='store_true', help="the frames' blocks, with the bytes of memory")
+    parser.add_argument('--registers', action='store_true', help="the frames' registers, as bytes")
+    parser.add_argument('--variables', action='store_true', help="the frames' variables")
+    parser.add_argument('--frame', type=int, metavar='N', help='of frame N only')
+    parser.add_argument('--dat', action='store_true', help='read the file as trace.dat whatever it starts with')
+    return parser.parse_args(words)
+
+
+def shown_trace(trace, chosen):
+    """The lines of text that the arguments ask for."""
+    details = [show for show in (view.blocks, view.registers, view.variables) if getattr(chosen, show.__name__)]
+    framed = details or chosen.frames or chosen.frame is not None
+    if chosen.lines or not framed:
+        yield from view.lines(trace)
+    if framed or not chosen.lines:
+        frames = trace if chosen.frame is None else [trace.frame(chosen.frame)]
+        yield from view.frames(trace, frames, details)
+
+
+def show(data, chosen):
+    if chosen.dat or data[:len(MAGIC)] == MAGIC:
+        with TraceDat(data) as header:
+            sys.stdout.writelines(line + '\n' for line in view.dat(header))
+    else:
+        with Trace(data, chosen.order) as trace:
+            sys.stdout.writelines(line + '\n' for line in shown_trace(trace, chosen))
+
+
+def main():
+    # A reader such as `head` that has seen enough ends the command without a traceback.
+    signal.signal(signal.SIGPIPE, signal.SIG_DFL)
+    chosen = arguments()
+    try:
+        with open(chosen.file, 'rb') as file:
+            # One byte over the limit is enough to be refused for it.
+            show(file.read(LIMIT + 1), chosen)
+    except Refused as refused:
+        sys.stdout.flush()
+        print(refused, file=sys.stderr)
+        return REFUSED
+    except (OSError, LibraryMissing) as error:
+        print(error, file=sys.stderr)
+        return UNREADABLE
+    return 0
+
+
+if __name__ == '__main__':
+    sys.exit(main())

@@ -1,0 +1,163 @@
+"""GDB traces: lines, frames and blocks, as parts of the caller's bytes."""
+import itertools
+from typing import NamedTuple
+
+from ._buffer import Holder
+from ._library import FrameRecord, ask, fits, index, settings
+from .refusal import Refusal, Refused, absence_passed
+
+KINDS = ('other', 'R', 'status', 'tp', 'tsv', 'tdesc')
+FRAME_HEAD = 6
+
+
+class Line(NamedTuple):
+    """A line of the description, without its end. `kind` is one of KINDS."""
+
+    kind: str
+    place: int
+    data: memoryview
+
+
+class Registers(NamedTuple):
+    """A register block. `place` is that of its letter, `data` its bytes without the letter."""
+
+    place: int
+    data: memoryview
+
+
+class Memory(NamedTuple):
+    """A memory block. `place` is that of its letter, `data` its bytes alone."""
+
+    place: int
+    address: int
+    length: int
+    data: memoryview
+
+
+class Variable(NamedTuple):
+    """A variable block. `place` is that of its letter."""
+
+    place: int
+    number: int
+    value: int
+
+
+def answers(name, *arguments):
+    """The answers of a question that counts from 0, up to the first that is not there."""
+    with absence_passed():
+        for k in itertools.count():
+            yield ask(name, *arguments, k)
+
+
+class Frame:
+    """A frame: its number in the trace, its tracepoint's number, and the place and size of its data."""
+
+    __slots__ = ('_trace', 'number', 'tracepoint', 'place', 'size')
+
+    def __init__(self, trace, number, record):
+        self._trace = trace
+        self.number = number
+        self.tracepoint = record.tracepoint
+        self.place = record.place
+        self.size = record.size
+
+    def __repr__(self):
+        return f'<frame {self.number}: tracepoint {self.tracepoint}, {self.size} bytes at {self.place}>'
+
+    @property
+    def data(self):
+        return self._trace.part(self.place, self.size)
+
+    @property
+    def blocks(self):
+        """The frame's blocks, in order."""
+        alone, moved = self._alone()
+        records = list(answers('tfk_block_record', self._trace._settings, alone, 0))
+        # A block ends where the next one starts, and the last one where the data end.
+        ends = [record.place for record in records[1:]] + [len(alone)]
+        return [self._block(record, end, moved) for record, end in zip(records, ends)]
+
+    @property
+    def registers(self):
+        """The bytes of the earliest register block."""
+        return self._part('tfk_registers_place')
+
+    def memory(self, address):
+        """The bytes from an address to the end of the earliest memory block that covers it."""
+        if not fits(address, 64):
+            raise Refused(Refusal.NOT_FOUND)
+        return self._part('tfk_memory_place', address)
+
+    def variable(self, number):
+        """The value in the earliest variable block with this number."""
+        if not fits(number, 32):
+            raise Refused(Refusal.NOT_FOUND)
+        alone, _ = self._alone()
+        return ask('tfk_variable', self._trace._settings, alone, 0, number).value
+
+    def _alone(self):
+        """A trace of the opening and this frame only, and how far its places must be moved to be the file's.
+
+        A question reads the whole file that it is given, so asking the file about every frame takes the square of its
+        length. The opening and one frame are a trace too, in which the frame is frame 0 and has the same blocks."""
+        head = self.place - FRAME_HEAD
+        opening = self._trace.opening
+        frame = self._trace.part(head, FRAME_HEAD + self.size)
+        return memoryview(b''.join((opening, frame))), head - len(opening)
+
+    def _part(self, question, *arguments):
+        alone, moved = self._alone()
+        answer = ask(question, self._trace._settings, alone, 0, *arguments)
+        return self._trace.part(answer.place + moved, answer.length)
+
+    def _block(self, record, end, moved):
+        place, end = record.place + moved, end + moved
+        letter = chr(record.letter)
+        if letter == 'V':
+            return Variable(place, record.number, record.value)
+        if letter == 'M':
+            data = self._trace.part(end - record.length, record.length)
+            return Memory(place, record.address, record.length, data)
+        return Registers(place, self._trace.part(place + 1, end - place - 1))
+
+
+class Trace(Holder):
+    """A GDB trace over the caller's bytes. Of a map of a file that other processes write to, give it a copy.
+
+    It has its frames as length and iteration. Where the bytes are no trace, making it raises Refused."""
+
+    def __init__(self, data, order='little'):
+        self._settings = settings(order)
+        super().__init__(data)
+
+    def _read(self):
+        file, = self._files
+        count = ask('tfk_frame_count', self._settings, file).count
+        self._table = (FrameRecord * count)()
+        ask('tfk_frame_table', self._settings, file, self._table, count)
+
+    def __len__(self):
+        return len(self._table)
+
+    def __iter__(self):
+        return (Frame(self, n, record) for n, record in enumerate(self._table))
+
+    def frame(self, n):
+        if index(n) >= len(self):
+            raise Refused(Refusal.NOT_FOUND)
+        return Frame(self, n, self._table[n])
+
+    @property
+    def opening(self):
+        """The head and the description, with its empty line."""
+        file, = self._files
+        return file[:self._table[0].place - FRAME_HEAD] if len(self) else file[:]
+
+    @property
+    def lines(self):
+        """The description's lines, the closing empty one not among them.
+
+        The opening alone is a trace too, and it is the one that is asked: see Frame._alone."""
+        with self.opening as opening:
+            return [Line(KINDS[line.kind], line.place, self.part(line.place, line.length))
+                    for line in answers('tfk_line_place', self._settings, opening)]

@@ -1,0 +1,75 @@
+"""Traces as text, for people who read them by eye. Each function gives lines of text one by one."""
+from .dat import SECTIONS
+from .refusal import absence_passed
+from .trace import Memory, Registers, Variable
+
+ROW = 16
+
+
+def text(data):
+    """Bytes of a line, with those that cannot be shown escaped."""
+    return bytes(data).decode('latin-1').encode('unicode_escape').decode('ascii')
+
+
+def rows(data):
+    """Bytes as hexadecimal, 16 a row, each row with its offset."""
+    return (f'{at:5}  {data[at:at + ROW].hex(" ")}' for at in range(0, len(data), ROW))
+
+
+def indented(depth, lines):
+    return ('  ' * depth + line for line in lines)
+
+
+def lines(trace):
+    found = trace.lines
+    yield f'lines {len(found)}'
+    for j, line in enumerate(found):
+        yield f'  {j} {line.kind} at {line.place}: {text(line.data)}'
+
+
+def frames(trace, chosen, details):
+    """The chosen frames, each with what the functions `details` show of it."""
+    yield f'frames {len(trace)}'
+    for frame in chosen:
+        yield f'  frame {frame.number}: tracepoint {frame.tracepoint}, {frame.size} bytes at {frame.place}'
+        for detail in details:
+            yield from indented(2, detail(frame))
+
+
+def blocks(frame):
+    for block in frame.blocks:
+        if isinstance(block, Registers):
+            yield f'R at {block.place}: {len(block.data)} bytes'
+        elif isinstance(block, Memory):
+            yield f'M at {block.place}: {block.length} bytes from {block.address:#x}'
+            yield from indented(1, rows(block.data))
+        else:
+            yield f'V at {block.place}: variable {block.number} = {block.value}'
+
+
+def registers(frame):
+    with absence_passed():
+        data = frame.registers
+        yield f'registers: {len(data)} bytes'
+        yield from indented(1, rows(data))
+        return
+    yield 'no registers'
+
+
+def variables(frame):
+    """Each variable once. Which of its blocks counts is for the library to say."""
+    numbers = dict.fromkeys(block.number for block in frame.blocks if isinstance(block, Variable))
+    return (f'variable {number} = {frame.variable(number)}' for number in numbers)
+
+
+def dat(header):
+    counts = {'formats': header.format_count, 'systems': header.system_count}
+    yield f'trace.dat version 6, {header.order}-endian, long size {header.long_size}, page size {header.page_size}'
+    for name in SECTIONS:
+        section = header.section(name)
+        counted = f', {counts[name]} of them' if name in counts else ''
+        yield f'{name}: {section.size} bytes at {section.place}{counted}'
+    yield f'ending {header.ending}, header end {header.header_end}'
+    yield f'CPUs {header.cpu_count}'
+    for i, cpu in enumerate(header.cpus):
+        yield f'  CPU {i}: {cpu.size} bytes at {cpu.offset}'

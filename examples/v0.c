@@ -1,0 +1,96 @@
+/*
+ * Prints the mask register v0 in every frame of a little-endian trace. The board's register block has 776 bytes:
+ * 33 general registers of 8, then v0 to v31 of 16. So v0 is bytes 264 to 279.
+ *
+ *     cc -std=c99 -Iinclude examples/v0.c target/staticlib/libtrace_c.a -o v0 && ./v0 samples/masks.tf
+ */
+#include <stdio.h>
+#include <stdlib.h>
+#include <string.h>
+
+#include "tufakpeni.h"
+
+enum { FRAME_HEAD = 6, BLOCK = 776, V0 = 264, V0_SIZE = 16 };
+
+static const tfk_settings LITTLE = {0};
+
+static void *room_for(size_t size)
+{
+    void *room = malloc(size > 0 ? size : 1);
+    if (room == NULL) {
+        fprintf(stderr, "no memory\n");
+        exit(2);
+    }
+    return room;
+}
+
+/* The file's bytes, and their number in `length`. */
+static uint8_t *contents(const char *name, size_t *length)
+{
+    FILE *stream = fopen(name, "rb");
+    if (stream == NULL || fseek(stream, 0, SEEK_END) != 0) {
+        perror(name);
+        exit(2);
+    }
+    *length = (size_t)ftell(stream);
+    rewind(stream);
+    uint8_t *file = room_for(*length);
+    *length = fread(file, 1, *length, stream);
+    fclose(stream);
+    return file;
+}
+
+/* v0 of frame 0. */
+static void print_v0(const uint8_t *trace, size_t length)
+{
+    tfk_place registers = tfk_registers_place(LITTLE, trace, length, 0);
+    if (registers.refusal == TFK_NOT_FOUND) {
+        printf(" no registers\n");
+    } else if (registers.length != BLOCK) {
+        printf(" a register block of %zu bytes\n", registers.length);
+    } else {
+        for (size_t i = 0; i < V0_SIZE; i++) {
+            printf(" %02x", trace[registers.place + V0 + i]);
+        }
+        printf("\n");
+    }
+}
+
+/*
+ * A question reads the whole file that it is given, so asking the file about every frame takes the square of its
+ * length. The opening and one frame are a trace too, in which the frame is frame 0.
+ */
+static void print_frames(const uint8_t *file, size_t length, const tfk_frame *frames, size_t count)
+{
+    uint8_t *alone = room_for(length);
+    size_t opening = count > 0 ? frames[0].place - FRAME_HEAD : length;
+    memcpy(alone, file, opening);
+    for (size_t n = 0; n < count; n++) {
+        size_t size = FRAME_HEAD + frames[n].size;
+        memcpy(alone + opening, file + frames[n].place - FRAME_HEAD, size);
+        printf("frame %zu, tracepoint %u:", n, (unsigned)frames[n].tracepoint);
+        print_v0(alone, opening + size);
+    }
+    free(alone);
+}
+
+int main(int argc, char **argv)
+{
+    if (argc != 2) {
+        fprintf(stderr, "usage: %s TRACE\n", argv[0]);
+        return 2;
+    }
+    size_t length;
+    uint8_t *file = contents(argv[1], &length);
+    tfk_count count = tfk_frame_count(LITTLE, file, length);
+    tfk_frame *frames = room_for(count.count * sizeof *frames);
+    if (count.refusal == 0) {
+        tfk_frame_table(LITTLE, file, length, frames, count.count);
+        print_frames(file, length, frames, count.count);
+    } else {
+        fprintf(stderr, "refused %d\n", count.refusal);
+    }
+    free(frames);
+    free(file);
+    return count.refusal == 0 ? 0 : 1;
+}

@@ -1,0 +1,17 @@
+/* Every call about GDB traces, tried on one file. */
+#ifndef CALLS_H
+#define CALLS_H
+
+#include "tufakpeni.h"
+
+/* A selection of every number, and one of none. */
+extern const tfk_selection EVERY;
+extern const tfk_selection NONE;
+
+/* Every call answers with this refusal and all else 0, and leaves each output unchanged. */
+void all_refuse(tfk_settings settings, const uint8_t *file, size_t length, uint8_t refusal);
+
+/* Every call answers as it must about an accepted file whose opening and number of frames are known. */
+void all_accept(tfk_settings settings, const uint8_t *file, size_t length, size_t opening, size_t frames);
+
+#endif

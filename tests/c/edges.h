@@ -1,0 +1,10 @@
+/* The parts of the edge-case run. */
+#ifndef EDGES_H
+#define EDGES_H
+
+void lengths(void);   /* every length of small traces, and wrong arguments */
+void answers(void);   /* what the small traces answer */
+void limits(void);    /* the longest file and one byte more */
+void dats(void);      /* trace.dat headers */
+
+#endif

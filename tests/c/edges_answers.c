@@ -1,0 +1,141 @@
+/* What the small traces answer, in both byte orders: document 01's cases and their neighbours. */
+#include "answers.h"
+#include "check.h"
+#include "edges.h"
+#include "traces.h"
+
+#include <stdlib.h>
+#include <string.h>
+
+/* A small trace's file at the end of its allocation, with the first arguments of every question. */
+typedef struct {
+    tfk_settings settings;
+    uint8_t *file;
+    size_t length;
+} asked;
+
+#define ASKED(trace) (trace).settings, (trace).file, (trace).length
+
+static asked opened(size_t i, uint8_t order)
+{
+    small_trace trace = small_trace_of(i, order);
+    asked open = {{order}, exactly(trace.file.bytes, trace.file.length), trace.file.length};
+    begin(trace.name);
+    return open;
+}
+
+static void closed(asked trace)
+{
+    free(trace.file);
+    end();
+}
+
+static void two_registers(uint8_t order)
+{
+    asked trace = opened(TWO_REGISTERS, order);
+    tfk_frame record;
+    CHECK(is_count(tfk_frame_table(ASKED(trace), &record, 1), 0, 1) && is_frame(record, 1, 19, 3));
+    CHECK(is_line(tfk_line_place(ASKED(trace), 0), 0, TFK_LINE_R, 8, 3));
+    CHECK(is_line(tfk_line_place(ASKED(trace), 1), TFK_NOT_FOUND, 0, 0, 0));
+    CHECK(is_place(tfk_registers_place(ASKED(trace), 0), 0, 20, 2));
+    CHECK(is_registers(tfk_block_record(ASKED(trace), 0, 0), 19));
+    CHECK(no_block(tfk_block_record(ASKED(trace), 0, 1), TFK_NOT_FOUND));
+    CHECK(is_place(tfk_memory_place(ASKED(trace), 0, 0), TFK_NOT_FOUND, 0, 0));
+    CHECK(is_value(tfk_variable(ASKED(trace), 0, 0), TFK_NOT_FOUND, 0));
+    closed(trace);
+}
+
+static void memory_at_the_top(uint8_t order)
+{
+    asked trace = opened(MEMORY_AT_THE_TOP, order);
+    CHECK(is_memory(tfk_block_record(ASKED(trace), 0, 0), 15, UINT64_MAX, 2));
+    CHECK(is_place(tfk_memory_place(ASKED(trace), 0, UINT64_MAX), 0, 26, 2));
+    CHECK(is_place(tfk_memory_place(ASKED(trace), 0, 0), 0, 27, 1));
+    CHECK(is_place(tfk_memory_place(ASKED(trace), 0, 1), TFK_NOT_FOUND, 0, 0));
+    CHECK(is_place(tfk_memory_place(ASKED(trace), 0, UINT64_MAX - 1), TFK_NOT_FOUND, 0, 0));
+    closed(trace);
+}
+
+static void a_variable(uint8_t order)
+{
+    asked trace = opened(A_VARIABLE, order);
+    CHECK(is_variable(tfk_block_record(ASKED(trace), 0, 0), 15, 1, -1));
+    CHECK(is_value(tfk_variable(ASKED(trace), 0, 1), 0, -1));
+    CHECK(is_value(tfk_variable(ASKED(trace), 0, 0), TFK_NOT_FOUND, 0));
+    CHECK(is_value(tfk_pair_variable(ASKED(trace), trace.file, trace.length, 1, 1), 0, -1));
+    closed(trace);
+}
+
+static void lines_and_a_cut(uint8_t order)
+{
+    static const tfk_selection ONE = {{{1, 1}}, 1, 1};
+    asked trace = opened(NUMBERS_1_2_1, order);
+    CHECK(is_line(tfk_line_place(ASKED(trace), 0), 0, TFK_LINE_TP, 8, 4));
+    CHECK(is_line(tfk_line_place(ASKED(trace), 1), 0, TFK_LINE_STATUS, 13, 8));
+    CHECK(is_line(tfk_line_place(ASKED(trace), 2), 0, TFK_LINE_TSV, 22, 5));
+    CHECK(is_line(tfk_line_place(ASKED(trace), 3), 0, TFK_LINE_TDESC, 28, 6));
+    CHECK(is_line(tfk_line_place(ASKED(trace), 4), 0, TFK_LINE_OTHER, 35, 2));
+    CHECK(is_line(tfk_line_place(ASKED(trace), 5), TFK_NOT_FOUND, 0, 0, 0));
+    uint8_t *out = patterned(51);
+    CHECK(is_length(tfk_cut(ASKED(trace), ONE, out, 51), 0, 51));
+    CHECK(memcmp(out, trace.file, 45) == 0 && memcmp(out + 45, trace.file + 51, 6) == 0);
+    free(out);
+    closed(trace);
+}
+
+static void blocks_of_every_kind(uint8_t order)
+{
+    asked trace = opened(EVERY_BLOCK, order);
+    tfk_frame records[2];
+    CHECK(is_count(tfk_frame_table(ASKED(trace), records, 2), 0, 2));
+    CHECK(is_frame(records[0], 65535, 19, 40) && is_frame(records[1], 7, 65, 8));
+    CHECK(is_variable(tfk_block_record(ASKED(trace), 0, 0), 19, UINT32_MAX, INT64_MIN));
+    CHECK(is_memory(tfk_block_record(ASKED(trace), 0, 1), 32, 0x4D, 0));
+    CHECK(is_registers(tfk_block_record(ASKED(trace), 0, 2), 43));
+    CHECK(is_memory(tfk_block_record(ASKED(trace), 0, 3), 47, 0x4D, 1));
+    CHECK(no_block(tfk_block_record(ASKED(trace), 0, 4), TFK_NOT_FOUND));
+    CHECK(is_place(tfk_registers_place(ASKED(trace), 0), 0, 44, 3));
+    CHECK(is_place(tfk_memory_place(ASKED(trace), 0, 0x4D), 0, 58, 1));
+    CHECK(is_value(tfk_variable(ASKED(trace), 0, UINT32_MAX), 0, INT64_MIN));
+    CHECK(is_place(tfk_registers_place(ASKED(trace), 1), 0, 66, 3));
+    CHECK(is_registers(tfk_block_record(ASKED(trace), 1, 1), 69));
+    closed(trace);
+}
+
+static void registers_of_no_size(uint8_t order)
+{
+    asked trace = opened(NO_REGISTER_BYTES, order);
+    CHECK(is_place(tfk_registers_place(ASKED(trace), 0), 0, 20, 0));
+    CHECK(is_registers(tfk_block_record(ASKED(trace), 0, 1), 20));
+    closed(trace);
+}
+
+/* Two traces whose openings differ are refused with 13, whatever else is asked. */
+static void different_openings(uint8_t order)
+{
+    asked first = opened(TWO_REGISTERS, order);
+    asked second = opened(MEMORY_AT_THE_TOP, order);
+    uint8_t *out = patterned(100);
+    begin("different openings");
+    CHECK(is_length(tfk_join(ASKED(first), second.file, second.length, out, 100), TFK_OPENINGS_DIFFER, 0));
+    CHECK(is_length(tfk_join(ASKED(second), first.file, first.length, out, 0), TFK_OPENINGS_DIFFER, 0));
+    CHECK(all_pattern(out, 100));
+    CHECK(is_part(tfk_pair_place(ASKED(first), second.file, second.length, 0), TFK_OPENINGS_DIFFER, 0, 0, 0));
+    CHECK(is_value(tfk_pair_variable(ASKED(first), second.file, second.length, 9, 1), TFK_OPENINGS_DIFFER, 0));
+    free(out);
+    free(second.file);
+    closed(first);
+}
+
+void answers(void)
+{
+    for (uint8_t order = 0; order <= 1; order++) {
+        two_registers(order);
+        memory_at_the_top(order);
+        a_variable(order);
+        lines_and_a_cut(order);
+        blocks_of_every_kind(order);
+        registers_of_no_size(order);
+        different_openings(order);
+    }
+}

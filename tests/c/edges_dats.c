@@ -1,0 +1,294 @@
+/* trace.dat headers: each at every length, and faults at every place where document 01 names one. */
+#include "answers.h"
+#include "check.h"
+#include "edges.h"
+
+#include <stdlib.h>
+#include <string.h>
+
+enum { PAGE = 1024, PAGE_SIZE_END = 18, SMALLEST = 97, LATENCY_END = 97 };
+
+/* A fault of the fields that are fixed or limited; what is 0 stands for what is right. */
+typedef struct {
+    uint8_t flag;
+    uint8_t long_size;
+    uint32_t page_size;
+    uint64_t header_page_size;
+    uint32_t format_count;
+    uint32_t system_count;
+    uint32_t kallsyms_size;
+    uint64_t processes_size;
+    uint32_t cpu_count;
+} fault;
+
+/* The header up to its CPU count, with all its sections empty. */
+static made start(uint8_t order, fault given)
+{
+    made file = {order, 0, {0}};
+    PUT(&file, "\x17\x08\x44tracing6");
+    put_number(&file, 0, 1);
+    put_number(&file, given.flag ? given.flag : order, 1);
+    put_number(&file, given.long_size ? given.long_size : 8, 1);
+    put_number(&file, given.page_size ? given.page_size : PAGE, 4);
+    put(&file, "header_page", 12);
+    put_number(&file, given.header_page_size, 8);
+    put(&file, "header_event", 13);
+    put_number(&file, 0, 8);
+    put_number(&file, given.format_count, 4);
+    put_number(&file, given.system_count, 4);
+    put_number(&file, given.kallsyms_size, 4);
+    put_number(&file, 0, 4);
+    put_number(&file, given.processes_size, 8);
+    put_number(&file, given.cpu_count, 4);
+    return file;
+}
+
+/* Any file of this length is refused so, by both calls and with all else 0. */
+static void refused(const made *file, size_t length, uint8_t refusal)
+{
+    tfk_dat_summary expected;
+    uint8_t *bytes = exactly(file->bytes, length);
+    tfk_dat_summary answer = tfk_dat_read(bytes, length);
+    memset(&expected, 0, sizeof expected);
+    expected.refusal = refusal;
+    about = length;
+    CHECK(same_summary(&answer, &expected));
+    CHECK(is_range(tfk_dat_cpu_range(bytes, length, 0), refusal, 0, 0));
+    CHECK(is_range(tfk_dat_cpu_range(bytes, length, SIZE_MAX), refusal, 0, 0));
+    free(bytes);
+}
+
+static void refused_between(const made *file, size_t from, size_t to, uint8_t refusal)
+{
+    for (size_t length = from; length < to; length++) {
+        refused(file, length, refusal);
+    }
+}
+
+/* Cut short below `from` is 14; from there to the file's end it is refused so. */
+static void faulty(const char *name, const made *file, size_t from, uint8_t refusal)
+{
+    begin(name);
+    refused_between(file, 0, from, TFK_FIELD_PAST_FILE);
+    refused_between(file, from, file->length + 1, refusal);
+    end();
+}
+
+static void accepted(const made *file, size_t length, const tfk_dat_summary *expected)
+{
+    uint8_t *bytes = exactly(file->bytes, length);
+    tfk_dat_summary answer = tfk_dat_read(bytes, length);
+    about = length;
+    CHECK(same_summary(&answer, expected));
+    CHECK(is_range(tfk_dat_cpu_range(bytes, length, expected->cpu_count), TFK_NOT_FOUND, 0, 0));
+    CHECK(is_range(tfk_dat_cpu_range(bytes, length, SIZE_MAX), TFK_NOT_FOUND, 0, 0));
+    free(bytes);
+}
+
+/* The summary of a header whose sections are all empty. */
+static tfk_dat_summary empty_summary(uint8_t order, uint8_t ending)
+{
+    return (tfk_dat_summary){
+        .order = order, .long_size = 8, .ending = ending, .page_size = PAGE, .header_page = {38, 0},
+        .header_event = {59, 0}, .formats = {63, 0}, .systems = {67, 0}, .kallsyms = {71, 0}, .printk = {75, 0},
+        .processes = {83, 0}, .options = {0, 0}, .body = {97, 0},
+    };
+}
+
+static void smallest(uint8_t order)
+{
+    made file = start(order, (fault){0});
+    tfk_dat_summary expected = empty_summary(order, TFK_ENDING_FLYRECORD);
+    put(&file, "flyrecord", 10);
+    PUT(&file, "clock");
+    begin("97 bytes");
+    refused_between(&file, 0, SMALLEST, TFK_FIELD_PAST_FILE);
+    for (size_t length = SMALLEST; length <= file.length; length++) {
+        accepted(&file, length, &expected);
+    }
+    end();
+}
+
+static void latency(uint8_t order)
+{
+    made file = start(order, (fault){.cpu_count = 2});
+    tfk_dat_summary expected = empty_summary(order, TFK_ENDING_LATENCY);
+    put(&file, "latency  ", 10);
+    PUT(&file, "text");
+    begin("a latency file");
+    expected.cpu_count = 2;
+    refused_between(&file, 0, LATENCY_END, TFK_FIELD_PAST_FILE);
+    for (size_t length = LATENCY_END; length <= file.length; length++) {
+        uint8_t *bytes = exactly(file.bytes, length);
+        expected.body.size = length - LATENCY_END;
+        accepted(&file, length, &expected);
+        CHECK(is_range(tfk_dat_cpu_range(bytes, length, 0), TFK_NOT_FOUND, 0, 0));
+        free(bytes);
+    }
+    end();
+}
+
+static void sized(made *file, const char *text, size_t width)
+{
+    put_number(file, strlen(text), width);
+    put(file, text, strlen(text));
+}
+
+/* A header in which no section is empty, up to the entries of its two CPUs. */
+static made full_header(uint8_t order)
+{
+    made file = start(order, (fault){.long_size = 4});
+    file.length = PAGE_SIZE_END;
+    put(&file, "header_page", 12);
+    sized(&file, "page", 8);
+    put(&file, "header_event", 13);
+    sized(&file, "event", 8);
+    put_number(&file, 2, 4);
+    sized(&file, "one", 8);
+    sized(&file, "", 8);
+    put_number(&file, 1, 4);
+    put(&file, "sched", 6);
+    put_number(&file, 1, 4);
+    sized(&file, "switch", 8);
+    sized(&file, "symbols", 4);
+    sized(&file, "prints", 4);
+    sized(&file, "names", 8);
+    put_number(&file, 2, 4);
+    put(&file, "options  ", 10);
+    put_number(&file, 4, 2);
+    sized(&file, "clock", 4);
+    put_number(&file, 65535, 2);
+    sized(&file, "", 4);
+    put_number(&file, 0, 2);
+    put(&file, "flyrecord", 10);
+    return file;
+}
+
+static void fill_to(made *file, size_t length)
+{
+    while (file->length < length) {
+        PUT(file, "\0");
+    }
+}
+
+/* CPU 0 has three bytes of a page, CPU 1 nothing: its offset is not looked at. */
+static void every_section(uint8_t order)
+{
+    tfk_dat_summary expected = {
+        .order = order, .long_size = 4, .ending = TFK_ENDING_FLYRECORD, .page_size = PAGE, .format_count = 2,
+        .system_count = 1, .cpu_count = 2, .header_page = {38, 4}, .header_event = {63, 5}, .formats = {72, 19},
+        .systems = {95, 24}, .kallsyms = {123, 7}, .printk = {134, 6}, .processes = {148, 5}, .options = {167, 19},
+        .body = {196, 32},
+    };
+    made file = full_header(order);
+    begin("every section");
+    put_number(&file, PAGE, 8);
+    put_number(&file, 3, 8);
+    put_number(&file, UINT64_MAX, 8);
+    put_number(&file, 0, 8);
+    refused_between(&file, 0, file.length, TFK_FIELD_PAST_FILE);
+    size_t header = file.length;
+    fill_to(&file, PAGE + 3);
+    refused_between(&file, header, PAGE + 3, TFK_BAD_RANGE);
+    accepted(&file, PAGE + 3, &expected);
+    uint8_t *bytes = exactly(file.bytes, file.length);
+    CHECK(is_range(tfk_dat_cpu_range(bytes, file.length, 0), 0, PAGE, 3));
+    CHECK(is_range(tfk_dat_cpu_range(bytes, file.length, 1), 0, UINT64_MAX, 0));
+    free(bytes);
+    end();
+}
+
+/* Two CPUs with these ranges in a file of three pages. */
+static void ranges(const char *name, const uint64_t stored[4], uint8_t refusal)
+{
+    made file = full_header(0);
+    for (size_t i = 0; i < 4; i++) {
+        put_number(&file, stored[i], 8);
+    }
+    fill_to(&file, 3 * PAGE);
+    begin(name);
+    if (refusal != 0) {
+        refused(&file, file.length, refusal);
+    } else {
+        uint8_t *bytes = exactly(file.bytes, file.length);
+        CHECK(tfk_dat_read(bytes, file.length).refusal == 0);
+        CHECK(is_range(tfk_dat_cpu_range(bytes, file.length, 0), 0, stored[0], stored[1]));
+        CHECK(is_range(tfk_dat_cpu_range(bytes, file.length, 1), 0, stored[2], stored[3]));
+        free(bytes);
+    }
+    end();
+}
+
+static void every_range(void)
+{
+    static const struct {
+        const char *name;
+        uint64_t stored[4];
+        uint8_t refusal;
+    } CASES[] = {
+        {"a range up to the file's end", {PAGE, 2 * PAGE, 0, 0}, 0},
+        {"a range past the file's end", {PAGE, 2 * PAGE + 1, 0, 0}, TFK_BAD_RANGE},
+        {"a range whose end is past 2^64", {UINT64_MAX - PAGE + 1, 2 * PAGE, 0, 0}, TFK_BAD_RANGE},
+        {"a range that is not aligned", {PAGE + 1, 1, 0, 0}, TFK_BAD_RANGE},
+        {"a range before the header's end", {0, 1, 0, 0}, TFK_BAD_RANGE},
+        {"two ranges that touch", {2 * PAGE, PAGE, PAGE, PAGE}, 0},
+        {"two ranges with a byte in common", {2 * PAGE, PAGE, PAGE, PAGE + 1}, TFK_RANGES_OVERLAP},
+        {"the same range twice", {PAGE, 1, PAGE, 1}, TFK_RANGES_OVERLAP},
+        {"a range and one of nothing", {PAGE, 1, PAGE, 0}, 0},
+        {"16 ahead of 17", {PAGE, 1, PAGE, UINT64_MAX}, TFK_BAD_RANGE},
+        {"the largest numbers", {UINT64_MAX, UINT64_MAX, 0, 0}, TFK_BAD_RANGE},
+    };
+    for (size_t i = 0; i < sizeof CASES / sizeof *CASES; i++) {
+        ranges(CASES[i].name, CASES[i].stored, CASES[i].refusal);
+    }
+}
+
+/* One byte of the smallest file changed: refused from where its string or field is whole. */
+static void wrong_byte(const char *name, size_t place, uint8_t value, size_t from)
+{
+    made file = start(0, (fault){0});
+    put(&file, "flyrecord", 10);
+    file.bytes[place] = value;
+    faulty(name, &file, from, TFK_BAD_CONSTANT);
+}
+
+static void wrong_field(const char *name, fault given, size_t from, uint8_t refusal)
+{
+    made file = start(0, given);
+    put(&file, "flyrecord", 10);
+    faulty(name, &file, from, refusal);
+}
+
+static void every_fault(void)
+{
+    wrong_byte("the first string", 0, 0x16, 3);
+    wrong_byte("the word tracing", 3, 'T', 10);
+    wrong_byte("version 7", 10, '7', 12);
+    wrong_byte("no NUL behind the version", 11, '0', 12);
+    wrong_byte("the word header_page", 29, 'x', 30);
+    wrong_byte("the word header_event", 38, 'x', 51);
+    wrong_byte("the word flyrecord", 87, 'x', 97);
+    wrong_field("a byte order flag of 2", (fault){.flag = 2}, 13, TFK_BAD_CONSTANT);
+    wrong_field("a long size of 5", (fault){.long_size = 5}, 14, TFK_BAD_CONSTANT);
+    wrong_field("a page size of 512", (fault){.page_size = 512}, 18, TFK_BAD_CONSTANT);
+    wrong_field("a page size of 3,072", (fault){.page_size = 3072}, 18, TFK_BAD_CONSTANT);
+    wrong_field("a page size of 131,072", (fault){.page_size = 131072}, 18, TFK_BAD_CONSTANT);
+    wrong_field("1,025 CPUs", (fault){.cpu_count = 1025}, 87, TFK_BAD_RANGE);
+    wrong_field("1,024 CPUs and no entries", (fault){.cpu_count = 1024}, SMALLEST, TFK_FIELD_PAST_FILE);
+    wrong_field("the largest header page", (fault){.header_page_size = UINT64_MAX}, SMALLEST, TFK_FIELD_PAST_FILE);
+    wrong_field("the largest count of formats", (fault){.format_count = UINT32_MAX}, SMALLEST, TFK_FIELD_PAST_FILE);
+    wrong_field("the largest count of systems", (fault){.system_count = UINT32_MAX}, SMALLEST, TFK_FIELD_PAST_FILE);
+    wrong_field("the largest kallsyms", (fault){.kallsyms_size = UINT32_MAX}, SMALLEST, TFK_FIELD_PAST_FILE);
+    wrong_field("process names up to 2^64", (fault){.processes_size = UINT64_MAX - 82}, SMALLEST, TFK_FIELD_PAST_FILE);
+}
+
+void dats(void)
+{
+    for (uint8_t order = 0; order <= 1; order++) {
+        smallest(order);
+        latency(order);
+        every_section(order);
+    }
+    every_range();
+    every_fault();
+}

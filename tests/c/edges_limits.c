@@ -1,0 +1,124 @@
+/* The length limit: a file of 67,108,864 bytes and one of a byte more, and joins whose result is as long. */
+#include "answers.h"
+#include "calls.h"
+#include "check.h"
+#include "edges.h"
+#include "traces.h"
+
+#include <stdio.h>
+#include <stdlib.h>
+#include <string.h>
+
+enum { OPENING = sizeof(BARE) - 1, FRAME_HEAD = 6, MEMORY_HEAD = 11, LARGEST_FRAME = FRAME_HEAD + MEMORY_HEAD + 65535 };
+
+static const tfk_settings LITTLE = {0};
+
+static uint8_t *zeros(size_t length)
+{
+    uint8_t *bytes = calloc(length, 1);
+    if (bytes == NULL) {
+        printf("no memory for %zu bytes\n", length);
+        exit(2);
+    }
+    return bytes;
+}
+
+static void put_little(uint8_t *at, size_t value, size_t width)
+{
+    for (size_t i = 0; i < width; i++) {
+        at[i] = (uint8_t)(value >> (8 * i));
+    }
+}
+
+/* A trace of exactly this length: frames of one memory block each. The number of frames is left in `frames`. */
+static uint8_t *long_trace(size_t length, size_t *frames)
+{
+    uint8_t *file = zeros(length);
+    memcpy(file, BARE, OPENING);
+    *frames = 0;
+    for (size_t at = OPENING; at < length; *frames += 1) {
+        /* The last two share what is left, so that no frame is too short for its block. */
+        size_t left = length - at;
+        size_t size = left <= LARGEST_FRAME ? left : left < 2 * LARGEST_FRAME ? left / 2 : LARGEST_FRAME;
+        put_little(file + at, 1, 2);
+        put_little(file + at + 2, size - FRAME_HEAD, 4);
+        file[at + FRAME_HEAD] = 'M';
+        put_little(file + at + FRAME_HEAD + 9, size - FRAME_HEAD - MEMORY_HEAD, 2);
+        at += size;
+    }
+    return file;
+}
+
+static void longest_file(void)
+{
+    size_t frames;
+    uint8_t *file = long_trace(LIMIT, &frames);
+    tfk_place last;
+    begin("a file of 67,108,864 bytes");
+    CHECK(is_count(tfk_frame_count(LITTLE, file, LIMIT), 0, frames));
+    last = tfk_frame_place(LITTLE, file, LIMIT, frames - 1);
+    CHECK(last.refusal == 0 && last.place + last.length == LIMIT);
+    CHECK(is_memory(tfk_block_record(LITTLE, file, LIMIT, frames - 1, 0), last.place, 0, last.length - MEMORY_HEAD));
+    free(file);
+    end();
+}
+
+static void one_byte_more(void)
+{
+    size_t frames;
+    uint8_t *file = long_trace(LIMIT + 1, &frames);
+    tfk_settings wrong = {2};
+    begin("a file of 67,108,865 bytes");
+    all_refuse(LITTLE, file, LIMIT + 1, TFK_TOO_LONG);
+    all_refuse(wrong, file, LIMIT + 1, TFK_BAD_ARGUMENT);
+    free(file);
+    end();
+}
+
+/* A join of two traces whose result has this length, into room of exactly the limit. */
+static void joined(const char *name, size_t length, uint8_t refusal)
+{
+    size_t first_frames, second_frames, first_length = LIMIT / 2, second_length = length + OPENING - first_length;
+    uint8_t *first = long_trace(first_length, &first_frames);
+    uint8_t *second = long_trace(second_length, &second_frames);
+    uint8_t *out = patterned(LIMIT);
+    begin(name);
+    tfk_length answer = tfk_join(LITTLE, first, first_length, second, second_length, out, LIMIT);
+    CHECK(is_length(answer, refusal, refusal == 0 ? length : 0));
+    if (refusal == 0) {
+        CHECK(memcmp(out, first, first_length) == 0);
+        CHECK(memcmp(out + first_length, second + OPENING, second_length - OPENING) == 0);
+    } else {
+        CHECK(all_pattern(out, LIMIT));
+        CHECK(is_length(tfk_join(LITTLE, first, first_length, second, second_length, out, 0), refusal, 0));
+    }
+    size_t beyond = first_frames + second_frames;
+    CHECK(is_part(tfk_pair_place(LITTLE, first, first_length, second, second_length, beyond),
+                  refusal == 0 ? TFK_NOT_FOUND : refusal, 0, 0, 0));
+    CHECK(is_value(tfk_pair_variable(LITTLE, first, first_length, second, second_length, 0, 1),
+                   refusal == 0 ? TFK_NOT_FOUND : refusal, 0));
+    free(first);
+    free(second);
+    free(out);
+    end();
+}
+
+static void long_dats(void)
+{
+    uint8_t *file = zeros(LIMIT + 1);
+    begin("trace.dat files of the limit and one byte more");
+    CHECK(tfk_dat_read(file, LIMIT).refusal == TFK_BAD_CONSTANT);
+    CHECK(tfk_dat_read(file, LIMIT + 1).refusal == TFK_TOO_LONG);
+    CHECK(is_range(tfk_dat_cpu_range(file, LIMIT + 1, 0), TFK_TOO_LONG, 0, 0));
+    free(file);
+    end();
+}
+
+void limits(void)
+{
+    longest_file();
+    one_byte_more();
+    joined("a join of 67,108,864 bytes", LIMIT, 0);
+    joined("a join of 67,108,865 bytes", LIMIT + 1, TFK_TOO_LONG);
+    long_dats();
+}

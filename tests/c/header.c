@@ -1,0 +1,9 @@
+/* The header in a program of its own, which is compiled as C and as C++ and linked with the archive. */
+#include "tufakpeni.h"
+
+int main(void)
+{
+    tfk_settings little = {0};
+    uint8_t none = 0;
+    return tfk_frame_count(little, &none, 0).refusal == TFK_BAD_HEAD ? 0 : 1;
+}

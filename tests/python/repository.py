@@ -1,0 +1,9 @@
+"""Where the repository's files are; makes its Python module importable."""
+import pathlib
+import sys
+
+ROOT = pathlib.Path(__file__).resolve().parents[2]
+MODULE = ROOT / 'bindings/python'
+EXPECTED = pathlib.Path(__file__).resolve().parent / 'expected'
+
+sys.path.insert(0, str(MODULE))

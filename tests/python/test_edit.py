@@ -1,0 +1,98 @@
+"""Cuts, joins and pairs."""
+import unittest
+
+from build import BARE, BIG, LITTLE
+from cases import Case
+from tufakpeni import Pair, Selection, Trace, _library, cut, join
+
+LINES = ['R 2', 'tp T1']
+
+
+class Cuts(Case):
+    def setUp(self):
+        self.frames = [LITTLE.frame(n, LITTLE.registers(bytes([n, i])), LITTLE.variable(i, -i))
+                       for i, n in enumerate((1, 2, 1, 0, 9, 2))]
+
+    def cut(self, *arguments):
+        return cut(LITTLE.trace(LINES, *self.frames), Selection(*arguments))
+
+    def of(self, *chosen):
+        return LITTLE.trace(LINES, *(self.frames[i] for i in chosen))
+
+    def test_keep(self):
+        self.assertEqual(self.cut([(1, 1)]), self.of(0, 2))
+        self.assertEqual(self.cut([(2, 9), (5, 20)]), self.of(1, 4, 5))
+        self.assertEqual(self.cut([(0, 65535)]), self.of(*range(6)))
+        self.assertEqual(self.cut([]), self.of())
+
+    def test_drop(self):
+        self.assertEqual(self.cut([(1, 1)], False), self.of(1, 3, 4, 5))
+        self.assertEqual(self.cut([], False), self.of(*range(6)))
+
+    def test_eight_ranges(self):
+        self.assertEqual(self.cut([(7, 7)] * 7 + [(9, 9)]), self.of(4))
+
+    def test_big(self):
+        frames = [BIG.frame(n, BIG.variable(n, n)) for n in (1, 256, 2)]
+        self.assertEqual(cut(BIG.trace([], *frames), Selection([(1, 2)]), 'big'), BIG.trace([], frames[0], frames[2]))
+
+    def test_both_senses_share_the_frames(self):
+        file, chosen = LITTLE.trace(LINES, *self.frames), Selection([(1, 1), (9, 9)])
+        lengths = [len(cut(file, selection)) for selection in (chosen, chosen.opposite())]
+        self.assertEqual(sum(lengths), len(file) + len(LITTLE.trace(LINES)))
+
+
+class Selections(Case):
+    def test_opposite(self):
+        keep = Selection([(1, 2), (3, 3)])
+        self.assertEqual(keep.opposite(), Selection(((1, 2), (3, 3)), False))
+        self.assertEqual(keep.opposite().opposite(), keep)
+        nine = Selection([(n, n) for n in range(9)])
+        self.assertEqual(nine.opposite().ranges, nine.ranges)
+
+    def test_the_librarys_opposite_keeps_all_else(self):
+        given = Selection([(n, n + 1) for n in range(8)]).numbers()
+        answer = _library.call('tfk_opposite', given)
+        self.assertEqual([(r.low, r.high) for r in answer.ranges], [(r.low, r.high) for r in given.ranges])
+        self.assertEqual((given.count, given.keep, answer.count, answer.keep), (8, 1, 8, 0))
+
+    def test_numbers_of_16_bits(self):
+        for ranges in ([(0, 65536)], [(-1, 5)], [(1, 2)] * 8 + [(0, 65536)]):
+            self.assertRaises(ValueError, Selection, ranges)
+        for ranges in ([1], [(1, 2, 3)], [('1', '2')]):
+            self.assertRaises((TypeError, ValueError), Selection, ranges)
+
+
+class Joins(Case):
+    def test_frames_of_both(self):
+        for made in (LITTLE, BIG):
+            first = [made.frame(n, made.registers(bytes([n, 0]))) for n in (3, 4)]
+            second = [made.frame(5, made.variable(6, 7))]
+            joined = join(made.trace(LINES, *first), made.trace(LINES, *second), made.order)
+            self.assertEqual(joined, made.trace(LINES, *first, *second))
+
+    def test_the_bare_opening(self):
+        file = LITTLE.trace([], LITTLE.frame(1))
+        self.assertEqual([join(file, BARE), join(BARE, file), join(BARE, BARE)], [file, file, BARE])
+
+
+class Pairs(Case):
+    def test_as_if_joined(self):
+        for made in (LITTLE, BIG):
+            first = made.trace(LINES, made.frame(1, made.variable(1, -1)), made.frame(2))
+            second = made.trace(LINES, made.frame(3, made.registers(b'ab'), made.variable(1, 5), made.variable(1, 6)))
+            pair, joined = Pair(first, second, made.order), Trace(join(first, second, made.order), made.order)
+            self.assertEqual([bytes(pair.frame(n).data) for n in range(3)], [bytes(frame.data) for frame in joined])
+            self.assertEqual([pair.frame(n)[:2] for n in range(3)], [(0, 25), (0, 44), (1, 25)])
+            self.assertEqual([pair.variable(n, 1) for n in (0, 2)], [-1, 5])
+            for n, v in ((0, 2), (0, 2 ** 32 + 1), (0, -1), (1, 1), (3, 1), (-1, 1)):
+                self.refused(12, pair.variable, n, v)
+            for n in (3, -1, 2 ** 64, 2 ** 64 + 1):
+                self.refused(12, pair.frame, n)
+
+    def test_without_frames(self):
+        self.refused(12, Pair(BARE, BARE).frame, 0)
+
+
+if __name__ == '__main__':
+    unittest.main()

@@ -1,0 +1,119 @@
+"""Every refusal of the table, carried with its number and its sentence."""
+import pickle
+import re
+import unittest
+
+from build import BARE, BIG, HEAD, LIMIT, LITTLE, dat
+from cases import Case
+from repository import ROOT
+from tufakpeni import Pair, Refusal, Refused, Selection, Trace, TraceDat, cut, cut_into, join, join_into
+
+FRAME = LITTLE.frame(1, LITTLE.variable(1, 2))
+
+
+class Table(Case):
+    def test_sentences_are_the_papers(self):
+        paper = (ROOT / 'docs/papers/01-scope.md').read_text()
+        rows = re.findall(r'^\| (\d+) \| (.*) \|$', paper, re.M)
+        self.assertEqual([(int(number), reason) for number, reason in rows],
+                         [(refusal.value, refusal.reason) for refusal in Refusal])
+
+    def test_names_are_the_headers(self):
+        header = (ROOT / 'include/tufakpeni.h').read_text()
+        names = {name: int(number) for name, number in re.findall(r'\bTFK_(\w+) = (\d+),? *(?=/\*)', header)}
+        self.assertEqual(names, {refusal.name: refusal.value for refusal in Refusal})
+
+    def test_text(self):
+        refused = Refused(3)
+        self.assertEqual(str(refused), 'refused 3: the head differs or is cut short')
+        self.assertEqual((refused.number, refused.reason), (3, 'the head differs or is cut short'))
+        self.assertEqual(str(pickle.loads(pickle.dumps(refused))), str(refused))
+
+
+class Files(Case):
+    """Little-endian files that are refused, by whichever call is given them."""
+
+    CASES = [
+        (1, bytes(LIMIT + 1)), (3, bytes(LIMIT)),
+        (3, b''), (3, HEAD[:7]), (3, b'x' + HEAD), (3, HEAD.lower() + b'\n'),
+        (4, HEAD), (4, HEAD + b'R 2\n'), (4, HEAD + b'R x'), (4, HEAD + b'R 1\nR 2'),
+        (5, HEAD + b'R x\n'), (5, LITTLE.trace(['R 65536'])), (5, LITTLE.trace(['R 1', 'R 1'])),
+        (5, LITTLE.trace(['status 1', 'status 1'])),
+        (6, BARE + bytes.fromhex('01 00 00 00 00')), (6, BARE + b'\1'),
+        (7, BARE + bytes.fromhex('01 00 01 00 00 00')), (7, BARE + bytes.fromhex('01 00 ff ff ff ff')),
+        (8, BARE + bytes.fromhex('01 00 01 00 00 00 00')), (8, LITTLE.trace([], FRAME, LITTLE.frame(1, b'r'))),
+        (9, LITTLE.trace(['R 2'], LITTLE.frame(1, b'R\xaa'))), (9, LITTLE.trace([], LITTLE.frame(1, b'M' + bytes(9)))),
+        (9, LITTLE.trace([], LITTLE.frame(1, b'M' + bytes(8) + b'\1\0'))),
+        (9, LITTLE.trace([], LITTLE.frame(1, b'V' + bytes(11)))),
+        (10, BARE + bytes.fromhex('01 00 01 00 00 00 52')),
+    ]
+
+    def test_every_call(self):
+        any_number = Selection([(0, 65535)])
+        for number, file in self.CASES:
+            with self.subTest(number=number, file=file[:40]):
+                self.refused(number, Trace, file)
+                self.refused(number, cut, file, any_number)
+                for pair in ((file, BARE), (BARE, file), (file, file)):
+                    self.refused(number, join, *pair)
+                    self.refused(number, Pair, *pair)
+
+    def test_big(self):
+        for number, file in ((6, BARE + bytes(5)), (7, BIG.trace([], FRAME)), (8, BIG.trace([], BIG.frame(1, b'x'))),
+                             (9, BIG.trace(['R 2'], BIG.frame(1, b'R\xaa'))), (10, BIG.trace([], BIG.frame(1, b'R')))):
+            self.refused(number, Trace, file, 'big')
+
+    def test_the_longest_file(self):
+        block = LITTLE.memory(0, bytes(65535))
+        whole, rest = divmod(LIMIT - len(BARE) - 6, len(block))
+        last = LITTLE.memory(0, bytes(rest - 11))
+        file = LITTLE.trace([], LITTLE.frame(1, *[block] * whole, last))
+        self.assertEqual(len(file), LIMIT)
+        self.assertEqual(Trace(file).frame(0).size, LIMIT - 15)
+        one_more = LITTLE.trace([], LITTLE.frame(1))
+        self.refused(1, join, file, one_more)
+        self.refused(1, Pair, file, one_more)
+        self.assertEqual(len(join(file, BARE)), LIMIT)
+
+
+class Arguments(Case):
+    def test_byte_order(self):
+        for order in ('middle', '', None, 0, 256):
+            for call in (Trace, lambda file, order: cut(file, Selection([]), order),
+                         lambda file, order: join(file, file, order), lambda file, order: Pair(file, file, order)):
+                self.refused(2, call, b'', order)
+
+    def test_selections(self):
+        for ranges, number in (([(2, 1)], 2), ([(1, 2)] * 9, 2), ([(1, 2)] * 300, 2), ([(1, 1)] * 8, None)):
+            if number is None:
+                self.assertEqual(cut(BARE, Selection(ranges)), BARE)
+            else:
+                self.refused(number, cut, BARE, Selection(ranges))
+                self.refused(number, cut, b'', Selection(ranges))
+
+    def test_no_room(self):
+        file = LITTLE.trace([], FRAME)
+        for length in (0, len(file) - 1):
+            output = bytearray(b'\xa5' * length)
+            self.refused(11, cut_into, output, file, Selection([(1, 1)]))
+            self.refused(11, join_into, output, file, BARE)
+            self.assertEqual(output, b'\xa5' * length)
+
+    def test_openings_differ(self):
+        for first, second in ((BARE, LITTLE.trace(['tp'])), (LITTLE.trace(['tp 1']), LITTLE.trace(['tp 2']))):
+            self.refused(13, join, first, second)
+            self.refused(13, Pair, first, second)
+
+
+class Dats(Case):
+    def test_refusals(self):
+        for number, file in (
+                (1, bytes(LIMIT + 1)), (14, b''), (15, BARE), (14, dat()[:-1]), (15, dat(version=b'7\0')),
+                (16, dat(cpu_count=1025)), (16, dat(cpus=[(4096, 1)])),
+                (17, dat(cpus=[(4096, 8192), (8192, 4096)], rest=bytes(20000)))):
+            with self.subTest(number):
+                self.refused(number, TraceDat, file)
+
+
+if __name__ == '__main__':
+    unittest.main()

@@ -1,0 +1,164 @@
+//! The second reader's answers in the structs of the C interface: on a refusal every other field is 0.
+
+use crate::c::{self, Block, Count, CpuRange, DatSummary, Length, Line, PairPart, Place, Value};
+use crate::reader::{Reader, Record};
+use crate::second::dat::{self, Ending, Summary};
+use crate::second::edit::{self, Pair, Selection, TracepointRange, Which};
+use crate::second::gdb::{self, BlockKind, Frame, LineKind, Trace};
+use crate::second::{Order, Part, Refusal};
+
+/// An answer of the C interface.
+pub trait Answer: Copy + Default + PartialEq + std::fmt::Debug {
+    fn refusal(&self) -> u8;
+    fn refused(refusal: u8) -> Self;
+}
+
+macro_rules! answers {
+    ($($name:ident)*) => {
+        $(impl Answer for $name {
+            fn refusal(&self) -> u8 {
+                self.refusal
+            }
+            fn refused(refusal: u8) -> Self {
+                $name { refusal, ..Default::default() }
+            }
+        })*
+    };
+}
+
+answers! { Count Place Line Block Value Length PairPart DatSummary CpuRange }
+
+fn answer<T, A: Answer>(result: Result<T, Refusal>, told: impl FnOnce(T) -> A) -> A {
+    match result {
+        Ok(found) => told(found),
+        Err(refusal) => A::refused(refusal as u8),
+    }
+}
+
+/// The second reader.
+pub const SECOND: Reader = Reader {
+    frame_count: |order, file| answer(Trace::read(order, file), |trace| count(trace.frame_count())),
+    frame_table: |order, file, records| answer(frame_table(order, file, records), count),
+    line_place: |order, file, j| answer(Trace::read(order, file).and_then(|trace| trace.line(j)), line),
+    frame_place: |order, file, n| {
+        answer(Trace::read(order, file).and_then(|trace| trace.frame(n)), |frame| place(frame.data))
+    },
+    block_record: |order, file, n, k| answer(Trace::read(order, file).and_then(|trace| trace.block(n, k)), block),
+    registers_place: |order, file, n| answer(Trace::read(order, file).and_then(|trace| trace.registers(n)), place),
+    memory_place: |order, file, n, address| {
+        answer(Trace::read(order, file).and_then(|trace| trace.memory(n, address)), place)
+    },
+    variable: |order, file, n, number| {
+        answer(Trace::read(order, file).and_then(|trace| trace.variable(n, number)), value)
+    },
+    opposite: |selected| {
+        let opposite = selection(&selected).opposite();
+        c::Selection { keep: opposite.keep.into(), ..selected }
+    },
+    cut: |order, file, selected, out| answer(edit::cut(order, file, &selection(&selected), out), length),
+    join: |order, first, second, out| answer(edit::join(order, first, second, out), length),
+    pair_place: |order, first, second, n| {
+        answer(Pair::read(order, first, second).and_then(|pair| pair.frame(n)), pair_part)
+    },
+    pair_variable: |order, first, second, n, number| {
+        answer(Pair::read(order, first, second).and_then(|pair| pair.variable(n, number)), value)
+    },
+    dat_read: |file| answer(dat::read(file), |found| summary(&found)),
+    dat_cpu_range: |file, i| answer(dat::cpu_range(file, i), cpu_range),
+};
+
+fn count(count: usize) -> Count {
+    Count { refusal: 0, count }
+}
+
+fn length(length: usize) -> Length {
+    Length { refusal: 0, length }
+}
+
+fn value(value: i64) -> Value {
+    Value { refusal: 0, value }
+}
+
+fn place(part: Part) -> Place {
+    Place { refusal: 0, place: part.place, length: part.length }
+}
+
+fn cpu_range(range: dat::CpuRange) -> CpuRange {
+    CpuRange { refusal: 0, offset: range.offset, size: range.size }
+}
+
+/// Only the bytes of the fields are written, as C would.
+fn frame_table(order: u8, file: &[u8], records: &mut [Record]) -> Result<usize, Refusal> {
+    let unset = Frame { tracepoint: 0, data: Part { place: 0, length: 0 } };
+    let mut frames = vec![unset; records.len()];
+    let count = Trace::read(order, file)?.frame_table(&mut frames)?;
+    for (record, frame) in records.iter_mut().zip(&frames[..count]) {
+        let mut first = record[0].to_ne_bytes();
+        first[..2].copy_from_slice(&frame.tracepoint.to_ne_bytes());
+        *record = [u64::from_ne_bytes(first), frame.data.place as u64, frame.data.length as u64];
+    }
+    Ok(count)
+}
+
+fn line(line: gdb::Line) -> Line {
+    let kind = match line.kind {
+        LineKind::Other => c::LINE_OTHER,
+        LineKind::R => c::LINE_R,
+        LineKind::Status => c::LINE_STATUS,
+        LineKind::Tp => c::LINE_TP,
+        LineKind::Tsv => c::LINE_TSV,
+        LineKind::Tdesc => c::LINE_TDESC,
+    };
+    Line { refusal: 0, kind, place: line.part.place, length: line.part.length }
+}
+
+fn block(block: gdb::Block) -> Block {
+    let common = Block { place: block.place, ..Default::default() };
+    match block.kind {
+        BlockKind::Registers { .. } => Block { letter: b'R', ..common },
+        BlockKind::Memory { address, length } => Block { letter: b'M', address, length: length.into(), ..common },
+        BlockKind::Variable { number, value } => Block { letter: b'V', number, value, ..common },
+    }
+}
+
+pub fn selection(selection: &c::Selection) -> Selection {
+    let ranges = selection.ranges.map(|c::Range { low, high }| TracepointRange { low, high });
+    Selection { ranges, count: selection.count, keep: selection.keep != 0 }
+}
+
+fn pair_part((which, part): (Which, Part)) -> PairPart {
+    let trace = match which {
+        Which::First => 0,
+        Which::Second => 1,
+    };
+    PairPart { refusal: 0, trace, place: part.place, length: part.length }
+}
+
+pub fn summary(summary: &Summary) -> DatSummary {
+    let section = |part: Part| c::Part { place: part.place, size: part.length };
+    DatSummary {
+        refusal: 0,
+        order: match summary.order {
+            Order::Little => 0,
+            Order::Big => 1,
+        },
+        long_size: summary.long_size,
+        ending: match summary.ending {
+            Ending::Latency => c::ENDING_LATENCY,
+            Ending::Flyrecord => c::ENDING_FLYRECORD,
+        },
+        page_size: summary.page_size,
+        format_count: summary.format_count,
+        system_count: summary.system_count,
+        cpu_count: summary.cpu_count,
+        header_page: section(summary.header_page),
+        header_event: section(summary.header_event),
+        formats: section(summary.formats),
+        systems: section(summary.systems),
+        kallsyms: section(summary.kallsyms),
+        printk: section(summary.printk),
+        processes: section(summary.processes),
+        options: summary.options.map_or_else(c::Part::default, section),
+        body: section(summary.body),
+    }
+}

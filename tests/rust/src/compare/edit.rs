@@ -1,0 +1,70 @@
+//! Cuts, joins and pairs.
+
+use super::lent::Output;
+use super::{ask, indices, Comparer, Difference};
+use crate::answers::SECOND;
+use crate::c::{Length, Selection};
+use crate::make::{selection, Random};
+use crate::reader::Reader;
+use std::fmt::Arguments;
+
+/// A cut or join by a reader into an output.
+trait Edit: Fn(&Reader, &mut [u8]) -> Length {}
+impl<F: Fn(&Reader, &mut [u8]) -> Length> Edit for F {}
+
+impl Comparer<'_> {
+    /// Cuts by a right selection and by its opposite, and now and then by a wrong one.
+    pub(super) fn cuts(&mut self, random: &mut Random, order: u8, file: &[u8]) -> Result<(), Difference> {
+        let right = selection::right(random);
+        let opposite = self.opposite(right)?;
+        let wrong = random.one_in(4).then(|| selection::wrong(random));
+        if let Some(wrong) = wrong {
+            self.opposite(wrong)?;
+        }
+        for selection in [right, opposite].into_iter().chain(wrong) {
+            let call = format_args!("cut({order}, {selection:?})");
+            self.in_rooms(call, file.len() + 3, |reader, out| (reader.cut)(order, file, selection, out))?;
+        }
+        Ok(())
+    }
+
+    /// Joins, and every question about the two traces as a pair.
+    pub fn pair(&mut self, random: &mut Random, order: u8, first: &[u8], second: &[u8]) -> Result<(), Difference> {
+        let most = first.len() + second.len();
+        self.in_rooms(format_args!("join({order})"), most, |reader, out| (reader.join)(order, first, second, out))?;
+        let first_count = (SECOND.frame_count)(order, first).count;
+        let count = first_count + (SECOND.frame_count)(order, second).count;
+        let border = first_count.saturating_sub(2)..first_count + 2;
+        for n in border.chain(indices(count, 2)) {
+            ask!(self.pair_place([order] first second [n]))?;
+            let number = random.pick(&[0, 1, 1, 2, 3, 1 << 31, u32::MAX]);
+            ask!(self.pair_variable([order] first second [n, number]))?;
+        }
+        Ok(())
+    }
+
+    fn opposite(&mut self, selection: Selection) -> Result<Selection, Difference> {
+        let (given, second) = ((self.reader.opposite)(selection), (SECOND.opposite)(selection));
+        self.calls += 1;
+        if given != second {
+            return Err(Difference::new(format_args!("opposite({selection:?})"), given, second));
+        }
+        Ok(second)
+    }
+
+    /// A result with room to spare, with room for it alone, and with a byte less.
+    fn in_rooms(&mut self, call: Arguments, most: usize, edit: impl Edit) -> Result<(), Difference> {
+        let length = self.in_room(call, most, &edit)?.length;
+        self.in_room(call, length, &edit)?;
+        self.in_room(call, length.saturating_sub(1), &edit)?;
+        Ok(())
+    }
+
+    fn in_room(&mut self, call: Arguments, room: usize, edit: &impl Edit) -> Result<Length, Difference> {
+        let (mut given, mut second) = (Output::new(room), Output::new(room));
+        let call = format_args!("{call} with room for {room}");
+        let answer = self.same(call, edit(self.reader, given.lent()), edit(&SECOND, second.lent()))?;
+        given.same(call, &second)?;
+        Ok(answer)
+    }
+}

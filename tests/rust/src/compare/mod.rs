@@ -1,0 +1,89 @@
+//! The comparison of a reader with the second one: every call, on one file or a pair, with outputs compared whole.
+
+mod dat;
+mod edit;
+mod gdb;
+mod lent;
+
+use crate::answers::Answer;
+use crate::reader::Reader;
+use std::fmt::{Debug, Display};
+
+/// A call for which the readers answer differently.
+#[derive(Debug)]
+pub struct Difference {
+    pub call: String,
+    pub given: String,
+    pub second: String,
+}
+
+impl Difference {
+    fn new(call: impl Display, given: impl Debug, second: impl Debug) -> Self {
+        Difference { call: call.to_string(), given: format!("{given:?}"), second: format!("{second:?}") }
+    }
+}
+
+/// What compares a reader with the second one, and counts.
+pub struct Comparer<'r> {
+    reader: &'r Reader,
+    /// How many frames, and blocks of a frame, are asked for one by one.
+    most: usize,
+    pub calls: usize,
+    met: u32,
+}
+
+/// Compares one call; the first list of arguments stands before the lent files, the second after them.
+macro_rules! ask {
+    ($comparer:ident.$call:ident([$($before:expr),*] $($file:ident)* [$($after:expr),*])) => {
+        $comparer.same(
+            format_args!("{}{:?}", stringify!($call), ($($before,)* $($after,)*)),
+            ($comparer.reader.$call)($($before,)* $($file,)* $($after,)*),
+            (crate::answers::SECOND.$call)($($before,)* $($file,)* $($after,)*),
+        )
+    };
+}
+use ask;
+
+impl<'r> Comparer<'r> {
+    /// For made files: all frames and blocks but of the few that are large.
+    pub fn new(reader: &'r Reader) -> Self {
+        Comparer { reader, most: 12, calls: 0, met: 0 }
+    }
+
+    /// For every frame and every block, however many.
+    pub fn thorough(reader: &'r Reader) -> Self {
+        Comparer { most: usize::MAX, ..Comparer::new(reader) }
+    }
+
+    /// Which refusals were met since this was last asked.
+    pub fn take_met(&mut self) -> impl Iterator<Item = usize> {
+        let met = std::mem::take(&mut self.met);
+        (1..=17).filter(move |number| met & (1 << number) != 0)
+    }
+
+    /// Counts a call, and tells the answer where both give the same.
+    fn same<A: Answer>(&mut self, call: impl Display, given: A, second: A) -> Result<A, Difference> {
+        self.calls += 1;
+        self.met |= 1 << second.refusal();
+        if given != second {
+            return Err(Difference::new(call, given, second));
+        }
+        Ok(second)
+    }
+
+    /// Holds the second reader to what the file's making settles.
+    fn settled(&self, making: Option<u8>, refusal: u8) -> Result<(), Difference> {
+        match making {
+            Some(settled) if settled != refusal => {
+                Err(Difference::new("the refusal that the file's making settles", settled, refusal))
+            }
+            _ => Ok(()),
+        }
+    }
+}
+
+/// Numbers around a count that are worth asking for, and the first of those below it.
+fn indices(count: usize, most: usize) -> impl Iterator<Item = usize> {
+    let last = count.saturating_sub(1).max(most.min(count));
+    (0..count.min(most)).chain(last..=count + 1).chain([usize::MAX])
+}

@@ -1,0 +1,275 @@
+//! GDB traces at both sides of each edge of the rules, each with the refusal that its making settles.
+
+use super::gdb::{block, memory, memory_at, registers, text, variable, Frame, Trace, HEAD};
+use super::{Made, Random};
+use crate::second::Refusal;
+
+/// A maker of traces at one edge, in a byte order.
+type Edge = fn(&mut Random, u8) -> Made;
+
+pub const EDGES: [Edge; 16] = [
+    head,
+    no_empty_line,
+    register_line,
+    repeated_line,
+    unended_line,
+    tail,
+    size_past_file,
+    bad_letter,
+    short_memory,
+    short_variable,
+    short_registers,
+    no_register_size,
+    fault_in_the_earlier_frame,
+    bad_line_before_no_end,
+    several_blocks_of_a_kind,
+    largest_blocks,
+];
+
+const ACCEPTED: Option<u8> = Some(0);
+
+fn refused(refusal: Refusal) -> Option<u8> {
+    Some(refusal as u8)
+}
+
+/// The refusal where the fault is there, else acceptance.
+fn refused_if(fault: bool, refusal: Refusal) -> Option<u8> {
+    Some(if fault { refusal as u8 } else { 0 })
+}
+
+fn any_size(random: &mut Random) -> Option<usize> {
+    random.pick(&[None, Some(0), Some(1), Some(2), Some(8), Some(40)])
+}
+
+fn any_trace(random: &mut Random, order: u8) -> Trace {
+    let size = any_size(random);
+    Trace::with(random, order, size)
+}
+
+/// A trace with a frame in it, and the number of one of its frames.
+fn any_frame(random: &mut Random, order: u8, size: Option<usize>) -> (Trace, usize) {
+    let trace = Trace::with_frames(random, order, size);
+    let n = random.below(trace.frames.len());
+    (trace, n)
+}
+
+/// A head with a wrong byte, or cut short: also right after it.
+fn head(random: &mut Random, order: u8) -> Made {
+    let mut bytes = any_trace(random, order).bytes();
+    let place = random.below(HEAD.len() + 1);
+    if random.one_in(2) {
+        let whole = place == HEAD.len();
+        let refusal = if whole { Refusal::NoEmptyLine } else { Refusal::BadHead };
+        return Made::front("head cut", bytes, place, refused(refusal));
+    }
+    let place = place % HEAD.len();
+    bytes[place] ^= 1 + random.byte() % 255;
+    Made::new("head", bytes, refused(Refusal::BadHead))
+}
+
+/// A description that never ends, also where a carriage return stands for the empty line.
+fn no_empty_line(random: &mut Random, order: u8) -> Made {
+    let mut bytes = any_trace(random, order).unclosed();
+    let end: &[u8] = random.pick(&[b"", b"\r", b"\r\n", b" \n", b"tp", b"\0\n", b"\n"]);
+    bytes.extend_from_slice(end);
+    Made::new("no empty line", bytes, refused_if(end != b"\n", Refusal::NoEmptyLine))
+}
+
+/// Every form of an R line, good and bad.
+fn register_line(random: &mut Random, order: u8) -> Made {
+    const GOOD: [&[u8]; 8] = [b"R 65535", b"R 0", b"R 00000", b"R 00776", b"R 9", b"R 10000", b"R 59999", b"R 65529"];
+    const BAD: [&[u8]; 22] = [
+        b"R 65536",
+        b"R 65540",
+        b"R 66000",
+        b"R 70000",
+        b"R 99999",
+        b"R 000776",
+        b"R 000000",
+        b"R 123456",
+        b"R ",
+        b"R  1",
+        b"R 1 ",
+        b"R x",
+        b"R 1\r",
+        b"R -1",
+        b"R +1",
+        b"R 0x10",
+        b"R 9c4",
+        b"R 1/",
+        b"R 1:",
+        b"R \0",
+        b"R 1\0",
+        b"R 100000000000000000000000000",
+    ];
+    let bad = random.one_in(2);
+    let line = if bad { random.pick(&BAD) } else { random.pick(&GOOD) };
+    let mut trace = Trace::with(random, order, None);
+    let place = random.below(trace.lines.len() + 1);
+    trace.lines.insert(place, line.to_vec());
+    Made::new("R line", trace.bytes(), refused_if(bad, Refusal::BadLine))
+}
+
+/// A second line of a kind that stands once, or one that only looks like it.
+fn repeated_line(random: &mut Random, order: u8) -> Made {
+    let status = text(random);
+    let mut trace = Trace::with(random, order, Some(2));
+    trace.lines.retain(|line| !line.starts_with(b"status "));
+    trace.lines.push([b"status ", &status[..]].concat());
+    let bad = random.one_in(2);
+    let line: &[u8] = if bad {
+        random.pick(&[b"R 2", b"R 3", b"R 02", b"status ", b"status x"])
+    } else {
+        random.pick(&[b"R2", b"R\t2", b"R", b"status", b"status\t", b"Status x", b"tp ", b"tsv ", b"tdesc ", b"r 2"])
+    };
+    let place = random.below(trace.lines.len() + 1);
+    trace.lines.insert(place, line.to_vec());
+    Made::new("repeated line", trace.bytes(), refused_if(bad, Refusal::BadLine))
+}
+
+/// What is not ended is no line, so it cannot be a bad or a second one.
+fn unended_line(random: &mut Random, order: u8) -> Made {
+    let mut bytes = Trace::with(random, order, Some(1)).unclosed();
+    let line: &[u8] = random.pick(&[b"R 2", b"R x", b"R ", b"status 1", b"R 99999"]);
+    bytes.extend_from_slice(line);
+    Made::new("unended line", bytes, refused(Refusal::NoEmptyLine))
+}
+
+/// 1 to 5 bytes after the last frame; 6 are a frame of size 0 where they say so.
+fn tail(random: &mut Random, order: u8) -> Made {
+    let mut bytes = any_trace(random, order).bytes();
+    let length = random.below(7);
+    let tail = if length == 6 { vec![0; length] } else { random.bytes(length) };
+    bytes.extend_from_slice(&tail);
+    Made::new("tail", bytes, refused_if((1..=5).contains(&length), Refusal::ShortHead))
+}
+
+/// A last frame whose size is right, one too many or far too many; bad blocks in it do not matter then.
+fn size_past_file(random: &mut Random, order: u8) -> Made {
+    let size = any_size(random);
+    let (mut trace, _) = any_frame(random, order, size);
+    let last = trace.frames.last_mut().expect("a frame");
+    let past = !random.one_in(3);
+    if past {
+        if random.one_in(2) {
+            last.blocks.insert(0, random.bytes(3));
+        }
+        let size = last.data().len() as u32;
+        last.size = Some(random.pick(&[size + 1, size + 2, size + 256, size + 65_536, 1 << 31, u32::MAX]));
+    }
+    Made::new("size", trace.bytes(), refused_if(past, Refusal::DataPastFile))
+}
+
+/// A letter that is none, in any frame and between any blocks.
+fn bad_letter(random: &mut Random, order: u8) -> Made {
+    let size = any_size(random);
+    let (mut trace, n) = any_frame(random, order, size);
+    let letter = random.pick(&[0, 0xFF, b'S', b'm', b'r', b'v', b'L', b'N', b'Q', b'T', b'U', b'W', b'\n', b' ']);
+    let length = random.below(4);
+    let blocks = &mut trace.frames[n].blocks;
+    let place = random.below(blocks.len() + 1);
+    blocks.insert(place, [&[letter], &random.bytes(length)[..]].concat());
+    Made::new("letter", trace.bytes(), refused(Refusal::BadLetter))
+}
+
+/// Puts a block, whole or cut short, at the end of any frame.
+fn cut_block(random: &mut Random, order: u8, size: Option<usize>, mut block: Vec<u8>) -> Made {
+    let (mut trace, n) = any_frame(random, order, size);
+    let whole = block.len();
+    block.truncate(if random.one_in(3) { whole } else { 1 + random.below(whole) });
+    let short = block.len() < whole;
+    trace.frames[n].blocks.push(block);
+    Made::new("short block", trace.bytes(), refused_if(short, Refusal::BlockPastData))
+}
+
+fn short_memory(random: &mut Random, order: u8) -> Made {
+    let size = any_size(random);
+    let block = memory(random, order);
+    cut_block(random, order, size, block)
+}
+
+fn short_variable(random: &mut Random, order: u8) -> Made {
+    let size = any_size(random);
+    let block = variable(random, order);
+    cut_block(random, order, size, block)
+}
+
+fn short_registers(random: &mut Random, order: u8) -> Made {
+    let size = random.pick(&[0, 1, 2, 3, 16, 255, 256, 257]);
+    let block = registers(random, size);
+    cut_block(random, order, Some(size), block)
+}
+
+/// A register block where no R line was given, also as the last byte of its frame, and where lines only look like one.
+fn no_register_size(random: &mut Random, order: u8) -> Made {
+    let has_line = random.one_in(3);
+    let size = random.below(4);
+    let (mut trace, n) = any_frame(random, order, has_line.then_some(size));
+    if random.one_in(2) {
+        trace.lines.push(format!("R{size}").into_bytes());
+    }
+    let block = registers(random, size);
+    trace.frames[n].blocks.push(block);
+    Made::new("no R line", trace.bytes(), refused_if(!has_line, Refusal::NoRegisterSize))
+}
+
+/// Two faults in two frames: the one that stands first decides, though the other is of a lower number.
+fn fault_in_the_earlier_frame(random: &mut Random, order: u8) -> Made {
+    let mut trace = Trace::with(random, order, None);
+    let memory = memory_at(order, 1, b"ab");
+    let faults: [(Vec<u8>, Refusal); 3] = [
+        (vec![b'x'], Refusal::BadLetter),
+        (memory[..12].to_vec(), Refusal::BlockPastData),
+        (vec![b'R'], Refusal::NoRegisterSize),
+    ];
+    let (fault, refusal) = &faults[random.below(3)];
+    let first = block(random, order, None);
+    trace.frames.push(Frame { blocks: vec![first, fault.clone()], ..Frame::default() });
+    let (fault, _) = &faults[random.below(3)];
+    let size = random.pick(&[None, Some(u32::MAX)]);
+    trace.frames.push(Frame { blocks: vec![fault.clone()], size, ..Frame::default() });
+    Made::new("two faults", trace.bytes(), refused(*refusal))
+}
+
+/// A bad line is met before the description's missing end.
+fn bad_line_before_no_end(random: &mut Random, order: u8) -> Made {
+    let mut trace = any_trace(random, order);
+    trace.lines.push(b"R x".to_vec());
+    let mut bytes = trace.unclosed();
+    bytes.extend_from_slice(&text(random));
+    Made::new("bad line, no end", bytes, refused(Refusal::BadLine))
+}
+
+/// Blocks of one address or number several times, and memory that runs on at address 0.
+fn several_blocks_of_a_kind(random: &mut Random, order: u8) -> Made {
+    let mut trace = Trace::with_frames(random, order, Some(3));
+    for frame in &mut trace.frames {
+        let address = random.pick(&[u64::MAX, u64::MAX - 1, 0, 100]);
+        for _ in 0..3 {
+            let length = random.below(5);
+            let bytes = random.bytes(length);
+            frame.blocks.push(memory_at(order, address.wrapping_sub(random.below(3) as u64), &bytes));
+            frame.blocks.push(registers(random, 3));
+            frame.blocks.push(variable(random, order));
+        }
+        random.shuffle(&mut frame.blocks);
+    }
+    Made::new("repeated blocks", trace.bytes(), ACCEPTED)
+}
+
+/// The largest register and memory blocks; mostly left out, for their size.
+fn largest_blocks(random: &mut Random, order: u8) -> Made {
+    if !random.one_in(50) {
+        return several_blocks_of_a_kind(random, order);
+    }
+    let mut trace = Trace { order, lines: vec![b"R 65535".to_vec()], ..Trace::default() };
+    let memory = memory_at(order, random.number(), &[b'R'; 65_535]);
+    let mut blocks = vec![registers(random, 65_535), memory, variable(random, order)];
+    random.shuffle(&mut blocks);
+    let short = random.one_in(2);
+    if short {
+        blocks.last_mut().expect("a block").pop();
+    }
+    trace.frames.push(Frame { blocks, ..Frame::default() });
+    Made::new("largest blocks", trace.bytes(), refused_if(short, Refusal::BlockPastData))
+}

@@ -1,0 +1,129 @@
+//! The laws of cuts and joins, run on made traces of one opening and on random selections through the C interface.
+
+use tufakpeni_tests::answers::selection as of_c;
+use tufakpeni_tests::c::{Frame, Length, Selection};
+use tufakpeni_tests::library::LIBRARY;
+use tufakpeni_tests::make::gdb::Trace;
+use tufakpeni_tests::make::{selection, Random};
+use tufakpeni_tests::reader::fields;
+use tufakpeni_tests::run::seed;
+
+const ROUNDS: usize = 50_000;
+/// A frame's number and size.
+const FRAME_HEAD: usize = 6;
+
+/// Three traces of one opening, and two selections.
+struct Round {
+    order: u8,
+    opening: Vec<u8>,
+    traces: [Vec<u8>; 3],
+    a: Selection,
+    b: Selection,
+}
+
+impl Round {
+    fn new(random: &mut Random) -> Self {
+        let order = random.below(2) as u8;
+        let first = Trace::valid(random, order);
+        let traces = [first.bytes(), first.sibling(random).bytes(), first.sibling(random).bytes()];
+        let opening = first.opening();
+        Round { order, opening, traces, a: selection::right(random), b: selection::right(random) }
+    }
+
+    fn cut(&self, file: &[u8], by: Selection) -> Vec<u8> {
+        result(file.len(), |out| (LIBRARY.cut)(self.order, file, by, out))
+    }
+
+    fn join(&self, first: &[u8], second: &[u8]) -> Vec<u8> {
+        result(first.len() + second.len(), |out| (LIBRARY.join)(self.order, first, second, out))
+    }
+
+    /// The frames of a trace with their bytes, heads included.
+    fn frames<'f>(&self, file: &'f [u8]) -> Vec<(Frame, &'f [u8])> {
+        let mut table = vec![[0; 3]; file.len()];
+        let answer = (LIBRARY.frame_table)(self.order, file, &mut table);
+        assert_eq!(answer.refusal, 0);
+        let frames = table[..answer.count].iter().map(fields);
+        frames.map(|frame| (frame, &file[frame.place - FRAME_HEAD..frame.place + frame.size])).collect()
+    }
+
+    fn a_join_is_cut_as_its_parts_are(&self) {
+        let [first, second, _] = &self.traces;
+        let cut_join = self.cut(&self.join(first, second), self.a);
+        let joined_cuts = self.join(&self.cut(first, self.a), &self.cut(second, self.a));
+        assert_eq!(cut_join, joined_cuts);
+    }
+
+    fn cuts_commute(&self) {
+        let file = &self.traces[0];
+        let mut both = self.opening.clone();
+        for (frame, bytes) in self.frames(file) {
+            if selects(&self.a, frame.tracepoint) && selects(&self.b, frame.tracepoint) {
+                both.extend_from_slice(bytes);
+            }
+        }
+        assert_eq!(self.cut(&self.cut(file, self.a), self.b), both);
+        assert_eq!(self.cut(&self.cut(file, self.b), self.a), both);
+    }
+
+    fn joining_is_associative(&self) {
+        let [first, second, third] = &self.traces;
+        let from_left = self.join(&self.join(first, second), third);
+        let from_right = self.join(first, &self.join(second, third));
+        assert_eq!(from_left, from_right);
+    }
+
+    fn the_bare_opening_is_a_unit(&self) {
+        let file = &self.traces[0];
+        assert_eq!(self.join(&self.opening, file), *file);
+        assert_eq!(self.join(file, &self.opening), *file);
+    }
+
+    /// Each frame stands in exactly one of the two cuts, at the place that the frames before it settle.
+    fn a_selection_and_its_opposite_part_the_frames(&self) {
+        let file = &self.traces[0];
+        let cuts = [self.a, (LIBRARY.opposite)(self.a)].map(|by| self.cut(file, by));
+        let parted = [self.frames(&cuts[0]), self.frames(&cuts[1])];
+        let mut before = [0, 0];
+        for (frame, bytes) in self.frames(file) {
+            let side = usize::from(!selects(&self.a, frame.tracepoint));
+            let (stands, same_bytes) = parted[side][before[side]];
+            assert_eq!((stands.tracepoint, same_bytes), (frame.tracepoint, bytes));
+            before[side] += 1;
+        }
+        assert_eq!(before, [parted[0].len(), parted[1].len()]);
+        assert_eq!(cuts[0].len() + cuts[1].len(), file.len() + self.opening.len());
+    }
+}
+
+/// The output of a cut or join that may not be refused, up to the length that it tells.
+fn result(room: usize, edit: impl FnOnce(&mut [u8]) -> Length) -> Vec<u8> {
+    let mut out = vec![0xA5; room];
+    let answer = edit(&mut out);
+    assert_eq!(answer.refusal, 0);
+    out.truncate(answer.length);
+    out
+}
+
+fn selects(selection: &Selection, tracepoint: u16) -> bool {
+    of_c(selection).check().expect("a right selection").selects(tracepoint)
+}
+
+#[test]
+fn the_laws_hold() {
+    let laws: [fn(&Round); 5] = [
+        Round::a_join_is_cut_as_its_parts_are,
+        Round::cuts_commute,
+        Round::joining_is_associative,
+        Round::the_bare_opening_is_a_unit,
+        Round::a_selection_and_its_opposite_part_the_frames,
+    ];
+    let seed = seed();
+    for index in 0..ROUNDS {
+        let round = Round::new(&mut Random::of(seed, index));
+        if std::panic::catch_unwind(|| laws.iter().for_each(|law| law(&round))).is_err() {
+            panic!("seed {seed}, round {index}: {:?}, {:?}, {:02x?}", round.a, round.b, round.traces);
+        }
+    }
+    println!("laws: seed {seed}, {ROUNDS} rounds of {} laws", laws.len());
+}

@@ -1,0 +1,233 @@
+//! The rules' own cases, "Both sides of each edge" and those of the project's readings, with values written out here.
+//! The second reader is held to them first, then the library.
+
+use tufakpeni_tests::answers::SECOND;
+use tufakpeni_tests::c::{
+    Block, Count, CpuRange, Frame, Length, Line, PairPart, Part, Place, Range, Selection, Value, ENDING_FLYRECORD,
+    ENDING_LATENCY, LINE_OTHER, LINE_R, LINE_STATUS, LINE_TDESC, LINE_TP, LINE_TSV,
+};
+use tufakpeni_tests::library::LIBRARY;
+use tufakpeni_tests::make::longest;
+use tufakpeni_tests::reader::{fields, Reader};
+
+const LITTLE: u8 = 0;
+const BIG: u8 = 1;
+const H: &[u8] = b"\x7fTRACE0\n";
+/// The two-register case.
+const TWO_REGISTERS: &[u8] = b"R 2\n\n\x01\0\x03\0\0\0R\xAA\xBB";
+/// A frame of 13 bytes with two bytes of memory at the last address.
+const TOP_MEMORY: &[u8] = b"\n\x01\0\x0D\0\0\0M\xFF\xFF\xFF\xFF\xFF\xFF\xFF\xFF\x02\0\x11\x22";
+/// A frame of 13 bytes with variable 1, all bits of its value set.
+const VARIABLE: &[u8] = b"\n\x01\0\x0D\0\0\0V\x01\0\0\0\xFF\xFF\xFF\xFF\xFF\xFF\xFF\xFF";
+
+fn trace(rest: &[u8]) -> Vec<u8> {
+    [H, rest].concat()
+}
+
+/// The refusal of a little-endian trace, 0 where it is accepted.
+fn refusal(reader: &Reader, rest: &[u8]) -> u8 {
+    (reader.frame_count)(LITTLE, &trace(rest)).refusal
+}
+
+/// A little-endian trace.dat header with empty sections as far as the CPU count, for a page size of 4,096.
+fn dat_front(cpus: u32) -> Vec<u8> {
+    let mut bytes = b"\x17\x08\x44tracing6\0\0\x08\0\x10\0\0header_page\0".to_vec();
+    bytes.extend_from_slice(&[0; 8]);
+    bytes.extend_from_slice(b"header_event\0");
+    bytes.extend_from_slice(&[0; 8 + 4 + 4 + 4 + 4 + 8]);
+    bytes.extend_from_slice(&cpus.to_le_bytes());
+    bytes
+}
+
+/// A flyrecord file of 12,288 bytes with these ranges.
+fn dat_with(ranges: &[(u64, u64)]) -> Vec<u8> {
+    let mut bytes = dat_front(ranges.len() as u32);
+    bytes.extend_from_slice(b"flyrecord\0");
+    for (offset, size) in ranges {
+        bytes.extend_from_slice(&offset.to_le_bytes());
+        bytes.extend_from_slice(&size.to_le_bytes());
+    }
+    bytes.resize(12_288, 0);
+    bytes
+}
+
+fn heads_and_frames(reader: &Reader) {
+    assert_eq!((reader.frame_count)(LITTLE, b"").refusal, 3);
+    assert_eq!((reader.frame_count)(LITTLE, &H[..7]).refusal, 3);
+    assert_eq!(refusal(reader, b""), 4);
+    assert_eq!((reader.frame_count)(LITTLE, &trace(b"\n")), Count { refusal: 0, count: 0 });
+    let one = trace(b"\n\x01\0\0\0\0\0");
+    for (order, tracepoint) in [(LITTLE, 1), (BIG, 256)] {
+        let mut table = [[0; 3]];
+        assert_eq!((reader.frame_table)(order, &one, &mut table), Count { refusal: 0, count: 1 });
+        assert_eq!(fields(&table[0]), Frame { tracepoint, place: 15, size: 0 });
+        assert_eq!((reader.frame_place)(order, &one, 0), Place { refusal: 0, place: 15, length: 0 });
+    }
+    assert_eq!((reader.frame_count)(LITTLE, &one[..14]).refusal, 6);
+    assert_eq!((reader.frame_count)(2, &one).refusal, 2);
+    assert_eq!((reader.frame_count)(2, b"").refusal, 2);
+    assert_eq!(refusal(reader, b"\n\x01\0\x01\0\0\0R"), 10);
+    assert_eq!(refusal(reader, b"\n\x01\0\x01\0\0\0\0"), 8);
+    assert_eq!(refusal(reader, b"\n\x01\0\x02\0\0\0R"), 7);
+}
+
+fn blocks(reader: &Reader) {
+    let registers = trace(TWO_REGISTERS);
+    assert_eq!((reader.registers_place)(LITTLE, &registers, 0), Place { refusal: 0, place: 20, length: 2 });
+    assert_eq!(registers[20..], [0xAA, 0xBB]);
+    assert_eq!(refusal(reader, b"R 2\n\n\x01\0\x02\0\0\0R\xAA"), 9);
+    let mut table = [[0; 3]];
+    assert_eq!((reader.frame_table)(LITTLE, &registers, &mut table), Count { refusal: 0, count: 1 });
+    assert_eq!(fields(&table[0]), Frame { tracepoint: 1, place: 19, size: 3 });
+    let block = Block { letter: b'R', place: 19, ..Block::default() };
+    assert_eq!((reader.block_record)(LITTLE, &registers, 0, 0), block);
+    assert_eq!((reader.block_record)(LITTLE, &registers, 0, 1).refusal, 12);
+    assert_eq!((reader.block_record)(LITTLE, &registers, 1, 0).refusal, 12);
+    let none = trace(b"R 0\n\n\x01\0\x01\0\0\0R");
+    assert_eq!((reader.registers_place)(LITTLE, &none, 0), Place { refusal: 0, place: 20, length: 0 });
+}
+
+fn memory_and_variables(reader: &Reader) {
+    let memory = trace(TOP_MEMORY);
+    let at = |address| (reader.memory_place)(LITTLE, &memory, 0, address);
+    assert_eq!(at(u64::MAX), Place { refusal: 0, place: 26, length: 2 });
+    assert_eq!(at(0), Place { refusal: 0, place: 27, length: 1 });
+    assert_eq!(at(1).refusal, 12);
+    assert_eq!(memory[26..], [0x11, 0x22]);
+    let block = Block { letter: b'M', place: 15, address: u64::MAX, length: 2, ..Block::default() };
+    assert_eq!((reader.block_record)(LITTLE, &memory, 0, 0), block);
+    let variable = trace(VARIABLE);
+    assert_eq!((reader.variable)(LITTLE, &variable, 0, 1), Value { refusal: 0, value: -1 });
+    assert_eq!((reader.variable)(LITTLE, &variable, 0, 0).refusal, 12);
+    let block = Block { letter: b'V', place: 15, number: 1, value: -1, ..Block::default() };
+    assert_eq!((reader.block_record)(LITTLE, &variable, 0, 0), block);
+    let empty = trace(b"\n\x01\0\x0B\0\0\0M\x05\0\0\0\0\0\0\0\0\0");
+    assert_eq!((reader.memory_place)(LITTLE, &empty, 0, 5).refusal, 12);
+}
+
+fn lines(reader: &Reader) {
+    for (good, size) in [("R 65535", 65_535), ("R 00776", 776), ("R 0", 0)] {
+        let mut file = trace(good.as_bytes());
+        file.extend_from_slice(b"\n\n\0\0");
+        file.extend_from_slice(&(1 + size as u32).to_le_bytes());
+        file.push(b'R');
+        file.resize(file.len() + size, b'M');
+        assert_eq!((reader.registers_place)(LITTLE, &file, 0).length, size, "{good}");
+    }
+    for bad in ["R 65536", "R 99999", "R 000776", "R ", "R x", "R 1 ", "R 1\r", "R 1\nR 1", "status 1\nstatus 2"] {
+        assert_eq!(refusal(reader, format!("{bad}\n\n").as_bytes()), 5, "{bad}");
+        assert_eq!(refusal(reader, format!("{bad}\n").as_bytes()), 5, "{bad}, no empty line");
+        assert_eq!(refusal(reader, bad.as_bytes()), 4, "{bad}, not ended");
+    }
+    let file = trace(b"R 1\nR8\nstatus x\nstatus\ntp \ntsv a\ntdesc <\ntp\n\r\n\n");
+    let kinds = [LINE_R, LINE_OTHER, LINE_STATUS, LINE_OTHER, LINE_TP, LINE_TSV, LINE_TDESC, LINE_OTHER, LINE_OTHER];
+    for (j, kind) in kinds.into_iter().enumerate() {
+        assert_eq!((reader.line_place)(LITTLE, &file, j).kind, kind, "line {j}");
+    }
+    assert_eq!((reader.line_place)(LITTLE, &file, 1), Line { refusal: 0, kind: LINE_OTHER, place: 12, length: 2 });
+    assert_eq!((reader.line_place)(LITTLE, &file, 9).refusal, 12);
+    assert_eq!(refusal(reader, b"R8\n\n\0\0\x01\0\0\0R"), 10);
+}
+
+fn edits(reader: &Reader) {
+    let file = trace(b"\n\x01\0\0\0\0\0\x02\0\x0D\0\0\0V\x07\0\0\0\x2A\0\0\0\0\0\0\0\x01\0\0\0\0\0");
+    let mut selection = Selection { count: 1, keep: 1, ..Selection::default() };
+    selection.ranges[0] = Range { low: 1, high: 1 };
+    let mut out = [0xEE; 24];
+    assert_eq!((reader.cut)(LITTLE, &file, selection, &mut out), Length { refusal: 0, length: 21 });
+    assert_eq!(out[..], [&trace(b"\n\x01\0\0\0\0\0\x01\0\0\0\0\0")[..], b"\xEE\xEE\xEE"].concat());
+    assert_eq!((reader.cut)(LITTLE, &file, selection, &mut [0; 20]).refusal, 11);
+    let opposite = (reader.opposite)(selection);
+    assert_eq!((reader.cut)(LITTLE, &file, opposite, &mut [0; 28]), Length { refusal: 0, length: 28 });
+    for (count, ranges, refusal) in [(8, 0, 0), (9, 0, 2), (0, 1, 0), (1, 1, 2)] {
+        let range = Range { low: ranges, high: 0 };
+        let selection = Selection { ranges: [range; 8], count, keep: 0 };
+        assert_eq!((reader.cut)(LITTLE, &file, selection, &mut [0; 64]).refusal, refusal, "{count} of {range:?}");
+    }
+    let mut out = [0; 71];
+    assert_eq!((reader.join)(LITTLE, &file, &file, &mut out), Length { refusal: 0, length: 71 });
+    assert_eq!(out[..], [&file[..], &file[9..]].concat());
+    assert_eq!((reader.join)(LITTLE, &file, &file, &mut [0; 70]).refusal, 11);
+    assert_eq!((reader.join)(LITTLE, &file, &trace(b"x\n\n"), &mut out).refusal, 13);
+    let of_second = PairPart { refusal: 0, trace: 1, place: 21, length: 13 };
+    assert_eq!((reader.pair_place)(LITTLE, &file, &file, 4), of_second);
+    assert_eq!((reader.pair_variable)(LITTLE, &file, &file, 4, 7), Value { refusal: 0, value: 42 });
+    assert_eq!((reader.pair_place)(LITTLE, &file, &file, 6).refusal, 12);
+}
+
+fn dat_headers(reader: &Reader) {
+    let bare = [&dat_front(0)[..], b"flyrecord\0"].concat();
+    assert_eq!(bare.len(), 97);
+    let summary = (reader.dat_read)(&bare);
+    assert_eq!((summary.refusal, summary.page_size, summary.ending), (0, 4_096, ENDING_FLYRECORD));
+    assert_eq!(summary.header_page, Part { place: 38, size: 0 });
+    assert_eq!(summary.header_event, Part { place: 59, size: 0 });
+    assert_eq!(summary.formats, Part { place: 63, size: 0 });
+    assert_eq!(summary.systems, Part { place: 67, size: 0 });
+    assert_eq!(summary.kallsyms, Part { place: 71, size: 0 });
+    assert_eq!(summary.printk, Part { place: 75, size: 0 });
+    assert_eq!(summary.processes, Part { place: 83, size: 0 });
+    assert_eq!(summary.options, Part { place: 0, size: 0 });
+    assert_eq!(summary.body, Part { place: 97, size: 0 });
+    assert_eq!((reader.dat_read)(&bare[..96]).refusal, 14);
+    let text = [&dat_front(1_024)[..], b"options  \0\0\0latency  \0text"].concat();
+    let summary = (reader.dat_read)(&text);
+    assert_eq!((summary.refusal, summary.cpu_count, summary.ending), (0, 1_024, ENDING_LATENCY));
+    assert_eq!(summary.options, Part { place: 97, size: 2 });
+    assert_eq!(summary.body, Part { place: 109, size: 4 });
+    assert_eq!((reader.dat_cpu_range)(&text, 0).refusal, 12);
+    assert_eq!((reader.dat_read)(&dat_front(1_025)).refusal, 16);
+    assert_eq!((reader.dat_read)(&dat_front(1_024)).refusal, 14);
+    let twice = [&dat_front(0)[..], b"options  \0\0\0options  \0\0\0flyrecord\0"].concat();
+    assert_eq!((reader.dat_read)(&twice).refusal, 15);
+    assert_eq!((reader.dat_read)(b"\x17\x08\x44xxx").refusal, 14);
+    assert_eq!((reader.dat_read)(b"\x17\x08\x44Tracing").refusal, 15);
+    assert_eq!((reader.dat_read)(b"\x17\x08\x44tracing7\0").refusal, 15);
+}
+
+fn dat_ranges(reader: &Reader) {
+    let refusal = |ranges: &[(u64, u64)]| (reader.dat_read)(&dat_with(ranges)).refusal;
+    let top = 4_096_u64.wrapping_neg();
+    assert_eq!(refusal(&[(4_096, 4_096), (8_192, 4_096)]), 0);
+    assert_eq!(refusal(&[(4_096, 8_192)]), 0);
+    assert_eq!(refusal(&[(4_096, 8_193)]), 16);
+    assert_eq!(refusal(&[(top, 8_192)]), 16);
+    assert_eq!(refusal(&[(4_097, 1)]), 16);
+    assert_eq!(refusal(&[(0, 1)]), 16);
+    assert_eq!(refusal(&[(4_096, 4_097), (top, 0), (8_192, 1)]), 17);
+    assert_eq!(refusal(&[(4_096, 4_097), (8_192, 1), (4_097, 1)]), 16);
+    let stored = CpuRange { refusal: 0, offset: top, size: 0 };
+    assert_eq!((reader.dat_cpu_range)(&dat_with(&[(4_096, 1), (top, 0)]), 1), stored);
+    assert_eq!((reader.dat_cpu_range)(&dat_with(&[(4_096, 1), (top, 0)]), 2).refusal, 12);
+}
+
+fn longest_files(reader: &Reader) {
+    let bare = [&dat_front(0)[..], b"flyrecord\0"].concat();
+    assert_eq!((reader.dat_read)(&longest::filled(bare.clone(), 0)).refusal, 0);
+    assert_eq!((reader.dat_read)(&longest::filled(bare, 1)).refusal, 1);
+    let long = longest::filled(Vec::new(), 1);
+    assert_eq!((reader.frame_count)(LITTLE, &long).refusal, 1);
+    assert_eq!((reader.frame_count)(LITTLE, &long[1..]).refusal, 3);
+    assert_eq!((reader.frame_count)(2, &long).refusal, 2);
+}
+
+fn all(reader: &Reader) {
+    heads_and_frames(reader);
+    blocks(reader);
+    memory_and_variables(reader);
+    lines(reader);
+    edits(reader);
+    dat_headers(reader);
+    dat_ranges(reader);
+    longest_files(reader);
+}
+
+#[test]
+fn the_second_reader_keeps_the_rules() {
+    all(&SECOND);
+}
+
+#[test]
+fn the_library_keeps_the_rules() {
+    all(&LIBRARY);
+}

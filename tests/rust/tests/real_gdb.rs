@@ -1,0 +1,218 @@
+//! Traces that gdb saved: the library and the second reader agree on them, and with what gdb reads in them.
+
+use std::collections::HashMap;
+use std::fs;
+use tufakpeni_tests::answers::SECOND;
+use tufakpeni_tests::c::Block;
+use tufakpeni_tests::compare::Comparer;
+use tufakpeni_tests::library::LIBRARY;
+use tufakpeni_tests::make::Random;
+use tufakpeni_tests::reader::{fields, Reader, Record};
+
+const FOLDER: &str = concat!(env!("CARGO_MANIFEST_DIR"), "/../real/gdb");
+const HEAD: usize = 8;
+const END_MARK: [u8; 4] = [0; 4];
+
+/// A saved trace: its byte order, the refusal of it with a decimal R line, and that without the end mark too, or the
+/// number of its frames.
+struct Saved {
+    name: &'static str,
+    order: u8,
+    with_mark: u8,
+    without_mark: Result<usize, u8>,
+}
+
+const fn saved(name: &'static str, order: u8, with_mark: u8, without_mark: Result<usize, u8>) -> Saved {
+    Saved { name, order, with_mark, without_mark }
+}
+
+const SAVED: [Saved; 17] = [
+    saved("badmem", 0, 6, Ok(3)),
+    saved("bare", 0, 6, Ok(3)),
+    saved("circular", 0, 8, Err(8)),
+    saved("empty", 0, 6, Ok(0)),
+    saved("full", 0, 6, Ok(119)),
+    saved("i386", 0, 6, Ok(5)),
+    saved("mem", 0, 6, Ok(3)),
+    saved("passcount", 0, 6, Ok(2)),
+    saved("raw", 0, 6, Ok(7)),
+    saved("regs", 0, 6, Ok(3)),
+    saved("resave", 0, 0, Ok(0)),
+    saved("s390x", 1, 6, Ok(6)),
+    saved("s390x-empty", 1, 6, Ok(0)),
+    saved("step", 0, 6, Ok(10)),
+    saved("tsv", 0, 6, Ok(3)),
+    saved("tworegs-merged", 0, 6, Ok(2)),
+    saved("zeronum", 0, 6, Ok(6)),
+];
+
+impl Saved {
+    fn bytes(&self) -> Vec<u8> {
+        let path = format!("{FOLDER}/{}.tf", self.name);
+        fs::read(&path).unwrap_or_else(|error| panic!("{path}: {error}"))
+    }
+
+    /// The trace with the number of its R line, which is the first, written in decimal.
+    fn decimal(&self) -> Vec<u8> {
+        let bytes = self.bytes();
+        let line = bytes[HEAD..].split(|&byte| byte == b'\n').next().expect("a line");
+        let digits = std::str::from_utf8(line).ok().and_then(|line| line.strip_prefix("R ")).expect("an R line");
+        let size = usize::from_str_radix(digits, 16).expect("a hexadecimal number");
+        [&bytes[..HEAD], format!("R {size}").as_bytes(), &bytes[HEAD + line.len()..]].concat()
+    }
+
+    /// The decimal trace without its end mark.
+    fn rewritten(&self) -> Vec<u8> {
+        let bytes = self.decimal();
+        bytes.strip_suffix(&END_MARK).map(<[u8]>::to_vec).unwrap_or(bytes)
+    }
+
+    fn read_by_gdb(&self) -> Vec<String> {
+        let path = format!("{FOLDER}/expected/{}.gdb.json", self.name);
+        let text = fs::read_to_string(&path).unwrap_or_else(|error| panic!("{path}: {error}"));
+        text.lines().filter(|line| line.starts_with("{\"frame\"")).map(str::to_string).collect()
+    }
+}
+
+#[test]
+fn every_saved_trace_is_listed() {
+    let names = fs::read_dir(FOLDER).expect("the folder").map(|entry| entry.expect("an entry").file_name());
+    let traces = names.filter(|name| name.to_string_lossy().ends_with(".tf")).count();
+    assert_eq!(traces, SAVED.len());
+}
+
+#[test]
+fn library_and_second_reader_agree() {
+    let random = &mut Random::new(1);
+    let mut comparer = Comparer::thorough(&LIBRARY);
+    for saved in &SAVED {
+        for bytes in [saved.bytes(), saved.decimal(), saved.rewritten()] {
+            for order in [0, 1] {
+                let compared = comparer.trace(random, order, &bytes).map(drop);
+                let compared = compared.and_then(|()| comparer.pair(random, order, &bytes, &bytes));
+                compared.unwrap_or_else(|difference| panic!("{}, {} bytes: {difference:?}", saved.name, bytes.len()));
+            }
+        }
+    }
+    println!("gdb's traces: {} files in 3 forms, {} calls compared, no difference", SAVED.len(), comparer.calls);
+}
+
+#[test]
+fn each_form_has_its_refusal() {
+    for saved in &SAVED {
+        let refusal = |bytes: &[u8]| (LIBRARY.frame_count)(saved.order, bytes).refusal;
+        assert_eq!(refusal(&saved.bytes()), 5, "{}", saved.name);
+        assert_eq!(refusal(&saved.decimal()), saved.with_mark, "{}", saved.name);
+        let count = (LIBRARY.frame_count)(saved.order, &saved.rewritten());
+        let without_mark = if count.refusal == 0 { Ok(count.count) } else { Err(count.refusal) };
+        assert_eq!(without_mark, saved.without_mark, "{}", saved.name);
+    }
+}
+
+/// A trace that gdb reads to its end.
+struct Checked<'s> {
+    reader: &'s Reader,
+    saved: &'s Saved,
+    bytes: Vec<u8>,
+    /// The variables' numbers by their names.
+    variables: HashMap<String, u32>,
+}
+
+impl<'s> Checked<'s> {
+    fn new(reader: &'s Reader, saved: &'s Saved) -> Self {
+        let bytes = saved.rewritten();
+        let lines = (0..).map(|j| (reader.line_place)(saved.order, &bytes, j)).take_while(|line| line.refusal == 0);
+        let variables = lines.filter_map(|line| variable(&bytes[line.place..line.place + line.length])).collect();
+        Checked { reader, saved, bytes, variables }
+    }
+
+    fn blocks(&self, n: usize) -> impl DoubleEndedIterator<Item = Block> {
+        let blocks = (0..).map(|k| (self.reader.block_record)(self.saved.order, &self.bytes, n, k));
+        blocks.take_while(|block| block.refusal == 0).collect::<Vec<_>>().into_iter()
+    }
+
+    /// The byte at an address, by the memory question.
+    fn byte(&self, n: usize, address: u64) -> u8 {
+        let part = (self.reader.memory_place)(self.saved.order, &self.bytes, n, address);
+        assert_eq!(part.refusal, 0, "{}: frame {n}, address {address}", self.saved.name);
+        self.bytes[part.place]
+    }
+
+    /// Holds frame n to gdb's line about it.
+    fn frame(&self, n: usize, table: &[Record], line: &str) {
+        let told = format!("{}: {line}", self.saved.name);
+        assert_eq!(fields(&table[n]).tracepoint.to_string(), between(line, "\"tp\": ", ","), "{told}");
+        for [address, length, bytes] in memory(line) {
+            let address: u64 = address.parse().expect("an address");
+            let length: u64 = length.parse().expect("a length");
+            let read: String = (0..length).map(|i| format!("{:02x}", self.byte(n, address + i))).collect();
+            assert_eq!(read, bytes.trim_matches('"'), "{told}");
+        }
+        for (name, value) in values(line) {
+            let number = self.variables[name];
+            let latest = self.blocks(n).rfind(|block| block.letter == b'V' && block.number == number);
+            assert_eq!(latest.expect("a variable").value.to_string(), value, "{told}");
+        }
+    }
+}
+
+/// The name and number that a line `tsv NUMBER:VALUE:BUILTIN:NAME` gives, all of them hexadecimal.
+fn variable(line: &[u8]) -> Option<(String, u32)> {
+    let line = std::str::from_utf8(line).ok()?.strip_prefix("tsv ")?;
+    let mut parts = line.split(':');
+    let number = u32::from_str_radix(parts.next()?, 16).ok()?;
+    let name = parts.nth(2)?;
+    let letters = (0..name.len()).step_by(2).map(|i| u8::from_str_radix(&name[i..i + 2], 16));
+    let name = String::from_utf8(letters.collect::<Result<_, _>>().ok()?).ok()?;
+    Some((format!("${name}"), number))
+}
+
+fn between<'t>(text: &'t str, start: &str, end: &str) -> &'t str {
+    let (_, rest) = text.split_once(start).unwrap_or_else(|| panic!("no {start} in {text}"));
+    rest.split_once(end).unwrap_or_else(|| panic!("no {end} in {rest}")).0
+}
+
+/// The stretches of memory in gdb's line: address, length and bytes.
+fn memory(line: &str) -> Vec<[&str; 3]> {
+    let stretches = between(line, "\"memory\": [", "], \"tsv\"").trim_matches(['[', ']']);
+    let stretches = stretches.split("], [").filter(|stretch| !stretch.is_empty());
+    stretches.map(|stretch| stretch.split(", ").collect::<Vec<_>>().try_into().expect("three parts")).collect()
+}
+
+/// The variables in gdb's line: name and value.
+fn values(line: &str) -> Vec<(&str, &str)> {
+    let values = between(line, "\"tsv\": {", "}").split(", ").filter(|value| !value.is_empty());
+    values
+        .map(|value| value.split_once(": ").expect("a name and a value"))
+        .map(|(n, v)| (n.trim_matches('"'), v))
+        .collect()
+}
+
+fn reads_as_gdb(reader: &Reader) {
+    // gdb takes the number 0 for its end mark, and reads the broken trace up to the fault.
+    let read = SAVED.iter().filter(|saved| !["zeronum", "circular"].contains(&saved.name));
+    let mut frames = 0;
+    for saved in read {
+        let checked = Checked::new(reader, saved);
+        let lines = saved.read_by_gdb();
+        let mut table = vec![[0; 3]; lines.len()];
+        let count = (reader.frame_table)(saved.order, &checked.bytes, &mut table);
+        assert_eq!((count.refusal, count.count), (0, lines.len()), "{}", saved.name);
+        for (n, line) in lines.iter().enumerate() {
+            checked.frame(n, &table, line);
+        }
+        frames += lines.len();
+    }
+    println!("gdb's traces: {frames} frames as gdb reads them");
+    assert!(frames > 100);
+}
+
+#[test]
+fn the_second_reader_reads_as_gdb() {
+    reads_as_gdb(&SECOND);
+}
+
+#[test]
+fn the_library_reads_as_gdb() {
+    reads_as_gdb(&LIBRARY);
+}

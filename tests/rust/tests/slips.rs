@@ -1,0 +1,350 @@
+//! That the comparison can fail: readers with one slip each are told from the second reader by the made files.
+
+use tufakpeni_tests::answers::{summary, Answer, SECOND};
+use tufakpeni_tests::c::{Block, Count, DatSummary, Length, PairPart, Part, Place, Selection, Value};
+use tufakpeni_tests::compare::Comparer;
+use tufakpeni_tests::make::{any_dat, any_trace, Random};
+use tufakpeni_tests::reader::{Reader, Record};
+use tufakpeni_tests::run::seed;
+use tufakpeni_tests::second::dat::{self, CpuRange};
+use tufakpeni_tests::second::Refusal;
+
+/// By how many made files a slip has to be seen at the latest: far fewer than the gate compares.
+const FILES: usize = 5_000;
+
+fn seen_on_traces(reader: &Reader) -> bool {
+    let mut comparer = Comparer::new(reader);
+    (0..FILES).any(|index| {
+        let random = &mut Random::of(seed(), index);
+        let trace = any_trace(random);
+        comparer.made_trace(random, &trace).is_err()
+    })
+}
+
+fn seen_on_dats(reader: &Reader) -> bool {
+    let mut comparer = Comparer::new(reader);
+    (0..FILES).any(|index| comparer.made_dat(&any_dat(&mut Random::of(seed(), index))).is_err())
+}
+
+#[test]
+fn the_second_reader_does_not_differ_from_itself() {
+    assert!(!seen_on_traces(&SECOND));
+    assert!(!seen_on_dats(&SECOND));
+}
+
+type Slip = (&'static str, Reader);
+
+const QUESTION_SLIPS: [Slip; 13] = [
+    ("order not looked at", Reader { frame_count: |_, file| (SECOND.frame_count)(0, file), ..SECOND }),
+    ("R8 taken as an R line", Reader { frame_count: r8_as_r_line, ..SECOND }),
+    ("a missing end before a bad line", Reader { frame_count: end_first, ..SECOND }),
+    ("a short block before no R line", Reader { frame_count: short_first, ..SECOND }),
+    ("registers by letter", Reader { registers_place: registers_by_letter, ..SECOND }),
+    ("latest registers", Reader { registers_place: latest_registers, ..SECOND }),
+    ("latest memory", Reader { memory_place: latest_memory, ..SECOND }),
+    ("latest variable", Reader { variable: latest_variable, ..SECOND }),
+    ("memory that does not wrap", Reader { memory_place: unwrapped_memory, ..SECOND }),
+    ("variable without its sign", Reader { variable: unsigned_variable, ..SECOND }),
+    ("a field left on a refusal", Reader { block_record: left_field, ..SECOND }),
+    ("records written, then no room", Reader { frame_table: records_first, ..SECOND }),
+    ("a record too many", Reader { frame_table: record_too_many, ..SECOND }),
+];
+
+const EDIT_SLIPS: [Slip; 9] = [
+    ("frames written, then no room", Reader { cut: frames_first, ..SECOND }),
+    ("a byte too many", Reader { cut: byte_too_many, ..SECOND }),
+    ("high left out", Reader { cut: high_left_out, ..SECOND }),
+    ("ranges beyond the count judged", Reader { cut: all_ranges_judged, ..SECOND }),
+    ("only keep 1 keeps", Reader { cut: only_one_keeps, ..SECOND }),
+    ("openings before the second's faults", Reader { join: openings_first, ..SECOND }),
+    ("a pair's border one frame off", Reader { pair_place: border_off, ..SECOND }),
+    ("only the first of a pair", Reader { pair_variable: first_only, ..SECOND }),
+    ("opposite unchanged", Reader { opposite: |selection| selection, ..SECOND }),
+];
+
+const DAT_SLIPS: [Slip; 8] = [
+    ("sum in 64 bits", Reader { dat_read: |file| read_with(file, bad_where_it_wraps, two_overlap), ..SECOND }),
+    ("empty ranges judged", Reader { dat_read: |file| read_with(file, misaligned, two_overlap), ..SECOND }),
+    ("header's end not looked at", Reader { dat_read: |file| read_with(file, bad_alone, two_overlap), ..SECOND }),
+    ("overlap of neighbours only", Reader { dat_read: |file| read_with(file, bad, neighbours_overlap), ..SECOND }),
+    ("touching taken for overlap", Reader { dat_read: |file| read_with(file, bad, two_touch), ..SECOND }),
+    ("a constant cut short taken for a wrong one", Reader { dat_read: wrong_first, ..SECOND }),
+    ("overlap judged first", Reader { dat_read: overlap_first, ..SECOND }),
+    ("place of options that are not there", Reader { dat_read: options_place, ..SECOND }),
+];
+
+#[test]
+fn slips_are_seen() {
+    for (name, slip) in QUESTION_SLIPS.iter().chain(&EDIT_SLIPS) {
+        assert!(seen_on_traces(slip), "not seen: {name}");
+    }
+    for (name, slip) in &DAT_SLIPS {
+        assert!(seen_on_dats(slip), "not seen: {name}");
+    }
+}
+
+#[test]
+fn whole_numbers_and_all_pairs_are_no_slip() {
+    assert!(!seen_on_dats(&Reader { dat_read: |file| read_with(file, bad, two_overlap), ..SECOND }));
+}
+
+/// The place and length of frame n's data, where the file is accepted.
+fn data(order: u8, file: &[u8], n: usize) -> Option<(usize, &[u8])> {
+    let frame = (SECOND.frame_place)(order, file, n);
+    (frame.refusal == 0).then(|| (frame.place, &file[frame.place..frame.place + frame.length]))
+}
+
+fn blocks(order: u8, file: &[u8], n: usize) -> impl DoubleEndedIterator<Item = Block> {
+    let blocks = (0..).map(|k| (SECOND.block_record)(order, file, n, k));
+    blocks.take_while(|block| block.refusal == 0).collect::<Vec<_>>().into_iter()
+}
+
+/// An answer that is given, with another in its place where there is one.
+fn instead<A: Answer>(right: A, wrong: impl FnOnce() -> Option<A>) -> A {
+    if right.refusal() != 0 {
+        return right;
+    }
+    wrong().unwrap_or(right)
+}
+
+/// The count of the file with each line `R8` made an R line.
+fn r8_as_r_line(order: u8, file: &[u8]) -> Count {
+    let mut read = file.to_vec();
+    while let Some(place) = read.windows(4).position(|bytes| bytes == b"\nR8\n") {
+        read.insert(place + 2, b' ');
+    }
+    (SECOND.frame_count)(order, &read)
+}
+
+/// The answer with one refusal in another's place, where this is so.
+fn swapped<A: Answer>(right: A, from: Refusal, to: Refusal, so: bool) -> A {
+    if so && right.refusal() == from as u8 {
+        A::refused(to as u8)
+    } else {
+        right
+    }
+}
+
+fn end_first(order: u8, file: &[u8]) -> Count {
+    let unended = !file.windows(2).any(|bytes| bytes == b"\n\n");
+    swapped((SECOND.frame_count)(order, file), Refusal::BadLine, Refusal::NoEmptyLine, unended)
+}
+
+fn short_first(order: u8, file: &[u8]) -> Count {
+    let right = (SECOND.frame_count)(order, file);
+    swapped(right, Refusal::NoRegisterSize, Refusal::BlockPastData, file.ends_with(b"R"))
+}
+
+fn wrong_first(file: &[u8]) -> DatSummary {
+    let filled = (SECOND.dat_read)(&[file, &[0xEE; 16]].concat());
+    let wrong = filled.refusal == Refusal::BadConstant as u8;
+    swapped((SECOND.dat_read)(file), Refusal::FieldPastFile, Refusal::BadConstant, wrong)
+}
+
+fn registers_by_letter(order: u8, file: &[u8], n: usize) -> Place {
+    let right = (SECOND.registers_place)(order, file, n);
+    instead(right, || {
+        let (place, data) = data(order, file, n)?;
+        let letter = data.iter().position(|&byte| byte == b'R')?;
+        Some(Place { place: place + letter + 1, ..right })
+    })
+}
+
+fn latest_registers(order: u8, file: &[u8], n: usize) -> Place {
+    let right = (SECOND.registers_place)(order, file, n);
+    instead(right, || {
+        let latest = blocks(order, file, n).rfind(|block| block.letter == b'R')?;
+        Some(Place { place: latest.place + 1, ..right })
+    })
+}
+
+/// Memory from an address to its block's end.
+fn memory_in(block: &Block, address: u64) -> Place {
+    let offset = address.wrapping_sub(block.address) as usize;
+    Place { refusal: 0, place: block.place + 11 + offset, length: block.length - offset }
+}
+
+fn latest_memory(order: u8, file: &[u8], n: usize, address: u64) -> Place {
+    let covers = |block: &Block| block.letter == b'M' && address.wrapping_sub(block.address) < block.length as u64;
+    instead((SECOND.memory_place)(order, file, n, address), || {
+        let latest = blocks(order, file, n).rfind(covers)?;
+        Some(memory_in(&latest, address))
+    })
+}
+
+fn unwrapped_memory(order: u8, file: &[u8], n: usize, address: u64) -> Place {
+    let covers = |block: &Block| {
+        let offset = address.checked_sub(block.address);
+        block.letter == b'M' && offset.is_some_and(|offset| offset < block.length as u64)
+    };
+    instead((SECOND.memory_place)(order, file, n, address), || {
+        let found = blocks(order, file, n).find(covers);
+        Some(found.map_or(Place::refused(Refusal::NotFound as u8), |block| memory_in(&block, address)))
+    })
+}
+
+fn latest_variable(order: u8, file: &[u8], n: usize, number: u32) -> Value {
+    let right = (SECOND.variable)(order, file, n, number);
+    instead(right, || {
+        let latest = blocks(order, file, n).rfind(|block| block.letter == b'V' && block.number == number)?;
+        Some(Value { value: latest.value, ..right })
+    })
+}
+
+fn unsigned_variable(order: u8, file: &[u8], n: usize, number: u32) -> Value {
+    let right = (SECOND.variable)(order, file, n, number);
+    Value { value: right.value & i64::MAX, ..right }
+}
+
+fn left_field(order: u8, file: &[u8], n: usize, k: usize) -> Block {
+    let right = (SECOND.block_record)(order, file, n, k);
+    Block { place: if right.refusal == 0 { right.place } else { 1 }, ..right }
+}
+
+fn records_first(order: u8, file: &[u8], records: &mut [Record]) -> Count {
+    let mut table = vec![[0; 3]; (SECOND.frame_count)(order, file).count];
+    (SECOND.frame_table)(order, file, &mut table);
+    for (record, frame) in records.iter_mut().zip(table) {
+        *record = frame;
+    }
+    (SECOND.frame_table)(order, file, records)
+}
+
+fn record_too_many(order: u8, file: &[u8], records: &mut [Record]) -> Count {
+    let answer = (SECOND.frame_table)(order, file, records);
+    if let Some(record) = records.get_mut(answer.count) {
+        record[0] ^= 1 << 63;
+    }
+    answer
+}
+
+fn frames_first(order: u8, file: &[u8], selection: Selection, out: &mut [u8]) -> Length {
+    let mut whole = vec![0; file.len()];
+    let length = (SECOND.cut)(order, file, selection, &mut whole).length.min(out.len());
+    out[..length].copy_from_slice(&whole[..length]);
+    (SECOND.cut)(order, file, selection, out)
+}
+
+fn byte_too_many(order: u8, file: &[u8], selection: Selection, out: &mut [u8]) -> Length {
+    let answer = (SECOND.cut)(order, file, selection, out);
+    if let Some(byte) = out.get_mut(answer.length) {
+        *byte = !*byte;
+    }
+    answer
+}
+
+fn high_left_out(order: u8, file: &[u8], mut selection: Selection, out: &mut [u8]) -> Length {
+    for range in selection.ranges.iter_mut().filter(|range| range.low < range.high) {
+        range.high -= 1;
+    }
+    (SECOND.cut)(order, file, selection, out)
+}
+
+fn all_ranges_judged(order: u8, file: &[u8], selection: Selection, out: &mut [u8]) -> Length {
+    if selection.ranges.iter().any(|range| range.low > range.high) {
+        return Length::refused(Refusal::BadArgument as u8);
+    }
+    (SECOND.cut)(order, file, selection, out)
+}
+
+fn only_one_keeps(order: u8, file: &[u8], selection: Selection, out: &mut [u8]) -> Length {
+    let keep = u8::from(selection.keep == 1);
+    (SECOND.cut)(order, file, Selection { keep, ..selection }, out)
+}
+
+fn openings_first(order: u8, first: &[u8], second: &[u8], out: &mut [u8]) -> Length {
+    let (one, other) = ((SECOND.frame_count)(order, first), (SECOND.frame_count)(order, second));
+    if one.refusal == 0 && other.refusal > Refusal::BadArgument as u8 {
+        return Length::refused(Refusal::OpeningsDiffer as u8);
+    }
+    (SECOND.join)(order, first, second, out)
+}
+
+fn border_off(order: u8, first: &[u8], second: &[u8], n: usize) -> PairPart {
+    let border = (SECOND.frame_count)(order, first).count;
+    (SECOND.pair_place)(order, first, second, if n == border { n + 1 } else { n })
+}
+
+fn first_only(order: u8, first: &[u8], second: &[u8], n: usize, number: u32) -> Value {
+    let right = (SECOND.pair_variable)(order, first, second, n, number);
+    instead(right, || Some((SECOND.variable)(order, first, n, number)))
+}
+
+/// What a file's CPU ranges are judged by.
+struct Bounds {
+    page: u64,
+    header_end: u64,
+    file_end: u64,
+}
+
+/// A file read with these judgements of a range and of all ranges together.
+fn read_with(file: &[u8], bad: fn(&CpuRange, &Bounds) -> bool, overlap: fn(&[CpuRange]) -> bool) -> DatSummary {
+    let Ok(header) = dat::header(file) else { return (SECOND.dat_read)(file) };
+    let ranges: Vec<_> = dat::cpu_ranges(&header, file).collect();
+    let bounds =
+        Bounds { page: header.page_size.into(), header_end: header.body.end() as u64, file_end: file.len() as u64 };
+    if ranges.iter().any(|range| bad(range, &bounds)) {
+        return DatSummary::refused(Refusal::BadRange as u8);
+    }
+    if overlap(&ranges) {
+        return DatSummary::refused(Refusal::RangesOverlap as u8);
+    }
+    summary(&header)
+}
+
+fn end(range: &CpuRange) -> u128 {
+    u128::from(range.offset) + u128::from(range.size)
+}
+
+fn misaligned(range: &CpuRange, bounds: &Bounds) -> bool {
+    !range.offset.is_multiple_of(bounds.page)
+}
+
+fn bad(range: &CpuRange, bounds: &Bounds) -> bool {
+    range.size > 0 && range.offset < bounds.header_end || bad_alone(range, bounds)
+}
+
+fn bad_alone(range: &CpuRange, bounds: &Bounds) -> bool {
+    range.size > 0 && (misaligned(range, bounds) || end(range) > bounds.file_end.into())
+}
+
+fn bad_where_it_wraps(range: &CpuRange, bounds: &Bounds) -> bool {
+    let end = range.offset.wrapping_add(range.size);
+    let misplaced = misaligned(range, bounds) || range.offset < bounds.header_end;
+    range.size > 0 && (misplaced || end > bounds.file_end)
+}
+
+/// Whether some two ranges that hold something are so.
+fn some_two(ranges: &[CpuRange], are: fn(&CpuRange, &CpuRange) -> bool) -> bool {
+    let held: Vec<_> = ranges.iter().filter(|range| range.size > 0).collect();
+    (0..held.len()).any(|one| held[..one].iter().any(|other| are(held[one], other)))
+}
+
+fn overlap(one: &CpuRange, other: &CpuRange) -> bool {
+    u128::from(one.offset) < end(other) && u128::from(other.offset) < end(one)
+}
+
+fn two_overlap(ranges: &[CpuRange]) -> bool {
+    some_two(ranges, overlap)
+}
+
+fn two_touch(ranges: &[CpuRange]) -> bool {
+    some_two(ranges, |one, other| u128::from(one.offset) <= end(other) && u128::from(other.offset) <= end(one))
+}
+
+fn neighbours_overlap(ranges: &[CpuRange]) -> bool {
+    ranges.windows(2).any(two_overlap)
+}
+
+fn overlap_first(file: &[u8]) -> DatSummary {
+    match read_with(file, |_, _| false, two_overlap) {
+        overlapping if overlapping.refusal == Refusal::RangesOverlap as u8 => overlapping,
+        _ => (SECOND.dat_read)(file),
+    }
+}
+
+fn options_place(file: &[u8]) -> DatSummary {
+    let right = (SECOND.dat_read)(file);
+    let options = if right.options.size == 0 { Part { place: right.body.place, size: 0 } } else { right.options };
+    DatSummary { options, ..right }
+}
