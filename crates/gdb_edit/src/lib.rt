@@ -20,6 +20,7 @@ use refusals::OPENINGS_DIFFER;
 use refusals::TOO_LONG;
 
 // Tracepoint numbers from low to high, both among them.
+#[repr(C)]
 pub struct Range {
     pub low: u16,
     pub high: u16,

@@ -14,6 +14,7 @@ use refusals::BAD_LINE;
 use refusals::NO_EMPTY_LINE;
 
 // How a file is to be read, in the caller's numbers: the byte order is 0 for little, 1 for big.
+#[repr(C)]
 pub struct Settings {
     pub order: u8,
 }

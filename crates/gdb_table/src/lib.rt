@@ -13,6 +13,7 @@ use gdb_read::Reading;
 use refusals::NO_ROOM;
 
 // A frame's record: its tracepoint number, the place of its data, and their size.
+#[repr(C)]
 pub struct FrameRecord {
     pub tracepoint: u16,
     pub place: usize,

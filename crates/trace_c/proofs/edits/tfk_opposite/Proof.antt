@@ -1,0 +1,13 @@
+-- `trace_c::edits::tfk_opposite` meets its contract: the selection of `gdb_edit::opposite`. Assumes nothing.
+use mathlib.Core.Path.{ap, _∙_}
+use borrow.Author.Needs.{needs}
+use Rattle.gdb_edit.specs.Selection.{against}
+use Rattle.trace_c.specs.Flat.{flatSelection}
+use Rattle.trace_c.proofs.edits.tfk_opposite.Statement.{statement}
+use Rattle.trace_c.proofs.edits.tfk_opposite.Tie as tie
+
+returns : tie.Need-returns
+returns c = c .flat-selection .ensures ∙ ap flatSelection (c .before .opposite .ensures ∙ ap against (c .before .before .selection-in .ensures))
+
+pub tfk-opposite-spec : {M : Type 1} → statement M
+tfk-opposite-spec = tie.close (tie.spec (λ c κs. search needs) (λ c κs. search needs) (λ c κs. search needs) returns)

@@ -1,0 +1,6 @@
+pub mod Flat
+pub mod FlatDat
+pub mod Listed
+pub mod ListedDat
+pub mod Told
+pub mod ToldDat
