@@ -1,0 +1,110 @@
+//! The blocks of a frame.
+use crate::raw;
+use crate::run::{Elements, Run};
+use crate::trace::HEAD;
+use crate::Order;
+use std::iter::FusedIterator;
+use std::ops::Range;
+
+/// What a block carries.
+#[derive(Clone, Copy, Debug, PartialEq, Eq)]
+pub enum Content<'a> {
+    /// The bytes of the registers, as many as the R line says.
+    Registers(&'a [u8]),
+    /// Memory, from an address on.
+    Memory { address: u64, bytes: &'a [u8] },
+    /// The value of a trace state variable.
+    Variable { number: u32, value: i64 },
+}
+
+/// A block of a frame.
+#[derive(Clone, Copy, Debug, PartialEq, Eq)]
+pub struct Block<'a> {
+    /// Where its letter stands in the file.
+    pub place: usize,
+    pub content: Content<'a>,
+}
+
+/// How a frame's blocks are read: nothing else of a trace bears on them.
+#[derive(Clone, Copy, Debug)]
+pub(crate) struct Manner<'a> {
+    pub order: Order,
+    /// The R line with its end; empty where there is none.
+    pub register_line: &'a [u8],
+    pub tracepoint: u16,
+}
+
+impl Manner<'_> {
+    /// Makes `trace` a trace of one frame with these blocks, and answers where they stand in it.
+    pub fn dress(&self, blocks: &[u8], trace: &mut Vec<u8>) -> usize {
+        let size = u32::try_from(blocks.len()).expect("a frame's size has four bytes");
+        trace.clear();
+        trace.extend_from_slice(HEAD);
+        trace.extend_from_slice(self.register_line);
+        trace.push(b'\n');
+        trace.extend_from_slice(&self.order.two_bytes(self.tracepoint));
+        trace.extend_from_slice(&self.order.four_bytes(size));
+        let place = trace.len();
+        trace.extend_from_slice(blocks);
+        place
+    }
+}
+
+/// The blocks of a frame, in order. See [`Frame::blocks`](crate::Frame::blocks).
+#[derive(Clone, Debug)]
+pub struct Blocks<'a>(Elements<'a, Manner<'a>>);
+
+impl<'a> Blocks<'a> {
+    /// Those that fill `bytes` of the file.
+    pub(crate) fn new(manner: Manner<'a>, file: &'a [u8], bytes: Range<usize>) -> Blocks<'a> {
+        Blocks(Elements::new(manner, file, bytes))
+    }
+}
+
+impl<'a> Iterator for Blocks<'a> {
+    type Item = Block<'a>;
+
+    fn next(&mut self) -> Option<Block<'a>> {
+        let (block, place) = self.0.next()?;
+        let content = content_of(&block, &self.0.file()[place..]);
+        Some(Block { place, content })
+    }
+}
+
+impl FusedIterator for Blocks<'_> {}
+
+/// The letter, 8 bytes of address and 2 of length stand before a memory block's bytes.
+const MEMORY_HEAD: usize = 11;
+
+/// What a block carries whose letter is the first byte of `bytes`.
+fn content_of<'a>(block: &raw::Block, bytes: &'a [u8]) -> Content<'a> {
+    match block.letter {
+        b'R' => Content::Registers(&bytes[1..1 + block.length]),
+        b'M' => {
+            let bytes = &bytes[MEMORY_HEAD..MEMORY_HEAD + block.length];
+            Content::Memory { address: block.address, bytes }
+        }
+        _ => Content::Variable { number: block.number, value: block.value },
+    }
+}
+
+impl Run for Manner<'_> {
+    type Element = raw::Block;
+
+    fn dress(&self, piece: &[u8], trace: &mut Vec<u8>) -> usize {
+        Manner::dress(self, piece, trace)
+    }
+
+    /// A register block's record has no length; all are as long as the earliest one.
+    fn ask(&self, trace: &[u8], k: usize) -> Option<raw::Block> {
+        let mut block = raw::block_record(self.order, trace, 0, k).ok()?;
+        if block.letter == b'R' {
+            block.length = raw::registers_place(self.order, trace, 0).ok()?.length;
+        }
+        Some(block)
+    }
+
+    fn start(block: &raw::Block) -> usize {
+        block.place
+    }
+}

@@ -1,0 +1,6 @@
+//! Document 01's cases, in both byte orders, through this crate's own functions.
+mod bytes;
+mod dat;
+mod edit;
+mod refusal;
+mod trace;

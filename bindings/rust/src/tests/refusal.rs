@@ -1,0 +1,34 @@
+//! The refusals against document 01's own table.
+use crate::Refusal;
+
+const PAPER: &str = include_str!("../../../../docs/papers/01-scope.md");
+
+/// The rows of the table: number and sentence.
+fn rows() -> Vec<(u8, &'static str)> {
+    let cells = |line: &'static str| -> Option<(u8, &'static str)> {
+        let (number, sentence) = line.strip_prefix("| ")?.strip_suffix(" |")?.split_once(" | ")?;
+        Some((number.parse().ok()?, sentence))
+    };
+    PAPER.lines().filter_map(cells).collect()
+}
+
+#[test]
+fn numbers_and_sentences_are_the_papers() {
+    let own: Vec<(u8, &str)> = Refusal::ALL.iter().map(|r| (r.number(), r.sentence())).collect();
+    assert_eq!(own, rows());
+}
+
+#[test]
+fn a_number_has_its_refusal() {
+    for refusal in Refusal::ALL {
+        assert_eq!(Refusal::of_number(refusal.number()), Some(refusal));
+    }
+    assert_eq!(Refusal::of_number(0), None);
+    assert_eq!(Refusal::of_number(18), None);
+}
+
+#[test]
+fn it_prints_number_and_sentence() {
+    let error: Box<dyn std::error::Error> = Box::new(Refusal::RangesOverlap);
+    assert_eq!(error.to_string(), "refusal 17: two CPU ranges overlap");
+}

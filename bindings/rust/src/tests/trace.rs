@@ -1,0 +1,233 @@
+//! Traces, their lines, frames and blocks.
+use super::bytes::{frame, memory, opening, registers, stands_at, trace, variable, ORDERS};
+use crate::{raw, Block, Content, LineKind, Order, Refusal, Trace, LONGEST};
+
+const BOARD: &[u8] = include_bytes!("../../../../samples/board.tf");
+
+fn refusal(order: Order, file: &[u8]) -> Option<Refusal> {
+    Trace::open(order, file).err()
+}
+
+#[test]
+fn openings() {
+    for order in ORDERS {
+        assert_eq!(refusal(order, b""), Some(Refusal::BadHead));
+        assert_eq!(refusal(order, b"\x7fTRACE1\n\n"), Some(Refusal::BadHead));
+        assert_eq!(refusal(order, b"\x7fTRACE0\n"), Some(Refusal::NoEmptyLine));
+        assert_eq!(refusal(order, b"\x7fTRACE0\n\n"), None);
+        assert_eq!(refusal(order, &opening("R 65535\n")), None);
+        assert_eq!(refusal(order, &opening("R 65536\n")), Some(Refusal::BadLine));
+        assert_eq!(refusal(order, &opening("R8\n")), None);
+        assert_eq!(refusal(order, &opening("status 1\nstatus 2\n")), Some(Refusal::BadLine));
+    }
+}
+
+#[test]
+fn frame_heads() {
+    let file = trace("", &[b"\x01\0\0\0\0\0".to_vec()]);
+    assert_eq!(Trace::open(Order::Little, &file).unwrap().frame(0).unwrap().tracepoint(), 1);
+    assert_eq!(Trace::open(Order::Big, &file).unwrap().frame(0).unwrap().tracepoint(), 256);
+    for order in ORDERS {
+        assert_eq!(refusal(order, &file[..file.len() - 1]), Some(Refusal::ShortHead));
+        let whole = trace("", &[frame(order, 1, &[variable(order, 1, -1)])]);
+        assert_eq!(refusal(order, &whole), None);
+        assert_eq!(refusal(order, &whole[..whole.len() - 1]), Some(Refusal::DataPastFile));
+    }
+}
+
+#[test]
+fn faulty_blocks() {
+    for order in ORDERS {
+        let with =
+            |description: &str, data: &[u8]| refusal(order, &trace(description, &[frame(order, 1, &[data.to_vec()])]));
+        assert_eq!(with("", b"R"), Some(Refusal::NoRegisterSize));
+        assert_eq!(with("", b"\0"), Some(Refusal::BadLetter));
+        assert_eq!(with("R 2\n", b"R\xAA\xBB"), None);
+        assert_eq!(with("R 2\n", b"R\xAA"), Some(Refusal::BlockPastData));
+        assert_eq!(with("R 0\n", b"R"), None);
+    }
+}
+
+#[test]
+fn a_file_longer_than_the_limit() {
+    let mut file = opening("");
+    file.resize(LONGEST + 1, 0);
+    assert_eq!(refusal(Order::Little, &file), Some(Refusal::TooLong));
+    assert_eq!(refusal(Order::Little, &file[..LONGEST]), Some(Refusal::ShortHead));
+}
+
+#[test]
+fn lines_have_kind_and_bytes() {
+    let file = opening("R 8\nstatus 1\ntp T1\ntsv 1\ntdesc <x>\nR8\ntp\n\r\n");
+    let expected: [(LineKind, &[u8]); 8] = [
+        (LineKind::R, b"R 8"),
+        (LineKind::Status, b"status 1"),
+        (LineKind::Tp, b"tp T1"),
+        (LineKind::Tsv, b"tsv 1"),
+        (LineKind::Tdesc, b"tdesc <x>"),
+        (LineKind::Other, b"R8"),
+        (LineKind::Other, b"tp"),
+        (LineKind::Other, b"\r"),
+    ];
+    for order in ORDERS {
+        let trace = Trace::open(order, &file).unwrap();
+        let got: Vec<(LineKind, &[u8])> = trace.lines().map(|line| (line.kind, line.bytes)).collect();
+        assert_eq!(got, expected);
+        assert!(trace.lines().all(|line| stands_at(&file, line.place, line.bytes)));
+        assert_eq!(trace.line(7).unwrap().bytes, b"\r");
+        assert_eq!(trace.line(8), Err(Refusal::NotFound));
+        assert_eq!(trace.opening(), &file[..]);
+    }
+}
+
+#[test]
+fn a_long_description_is_read_line_by_line() {
+    let texts: Vec<String> = (0..3000).map(|i| format!("tsv {}", "x".repeat(i % 13))).collect();
+    let file = trace(&(texts.join("\n") + "\n"), &[frame(Order::Big, 9, &[])]);
+    let trace = Trace::open(Order::Big, &file).unwrap();
+    assert_eq!(trace.lines().count(), texts.len());
+    for (line, text) in trace.lines().zip(&texts) {
+        assert_eq!(line.bytes, text.as_bytes());
+        assert!(stands_at(&file, line.place, line.bytes));
+        assert_eq!(line.kind, LineKind::Tsv);
+    }
+}
+
+#[test]
+fn frames_are_parts_of_the_file() {
+    for order in ORDERS {
+        let frames = [frame(order, 7, &[variable(order, 1, 5)]), frame(order, 300, &[]), frame(order, 7, &[])];
+        let file = trace("tp x\n", &frames);
+        let trace = Trace::open(order, &file).unwrap();
+        assert_eq!(trace.order(), order);
+        assert_eq!(trace.frame_count(), 3);
+        let seen: Vec<_> = trace.frames().map(|f| (f.number(), f.tracepoint(), f.place(), f.data().len())).collect();
+        assert_eq!(seen, [(0, 7, 20, 13), (1, 300, 39, 0), (2, 7, 45, 0)]);
+        assert!(trace.frames().all(|f| stands_at(&file, f.place(), f.data())));
+        assert_eq!(trace.frame(3).unwrap_err(), Refusal::NotFound);
+        assert_eq!(trace.blocks(3).unwrap_err(), Refusal::NotFound);
+        assert_eq!(trace.opening(), &file[..14]);
+    }
+}
+
+#[test]
+fn blocks_carry_what_their_kind_has() {
+    for order in ORDERS {
+        let blocks = [
+            registers(b"MV"),
+            memory(order, 258, b"RR"),
+            variable(order, 65536, -2),
+            registers(b"MM"),
+            memory(order, 1, b""),
+        ];
+        let file = trace("R 2\n", &[frame(order, 1, &[]), frame(order, 1, &blocks)]);
+        let trace = Trace::open(order, &file).unwrap();
+        let got: Vec<Block> = trace.blocks(1).unwrap().collect();
+        let expected = [
+            Block { place: 25, content: Content::Registers(b"MV") },
+            Block { place: 28, content: Content::Memory { address: 258, bytes: b"RR" } },
+            Block { place: 41, content: Content::Variable { number: 65536, value: -2 } },
+            Block { place: 54, content: Content::Registers(b"MM") },
+            Block { place: 57, content: Content::Memory { address: 1, bytes: b"" } },
+        ];
+        assert_eq!(got, expected);
+        assert_eq!(trace.blocks(0).unwrap().next(), None);
+        let Content::Registers(bytes) = got[3].content else { panic!("{got:?}") };
+        assert!(stands_at(&file, 55, bytes));
+    }
+}
+
+#[test]
+fn registers_are_those_of_the_earliest_block() {
+    for order in ORDERS {
+        let frames =
+            [frame(order, 1, &[variable(order, 1, 1), registers(b"ab"), registers(b"cd")]), frame(order, 1, &[])];
+        let file = trace("tp x\nR 2\n", &frames);
+        let trace = Trace::open(order, &file).unwrap();
+        assert_eq!(trace.registers(0).unwrap(), b"ab");
+        assert!(stands_at(&file, 38, trace.registers(0).unwrap()));
+        assert_eq!(trace.registers(1), Err(Refusal::NotFound));
+        assert_eq!(trace.registers(2), Err(Refusal::NotFound));
+    }
+}
+
+#[test]
+fn registers_of_size_0() {
+    for order in ORDERS {
+        let file = trace("R 0\n", &[frame(order, 1, &[registers(b""), registers(b"")])]);
+        let trace = Trace::open(order, &file).unwrap();
+        assert!(trace.registers(0).unwrap().is_empty());
+        assert!(trace.blocks(0).unwrap().map(|b| b.place).eq([19, 20]));
+    }
+}
+
+#[test]
+fn memory_runs_on_at_address_0() {
+    for order in ORDERS {
+        let file = trace("", &[frame(order, 1, &[memory(order, u64::MAX, b"\x11\x22"), memory(order, 0, b"late")])]);
+        let trace = Trace::open(order, &file).unwrap();
+        assert_eq!(trace.memory(0, u64::MAX).unwrap(), b"\x11\x22");
+        assert_eq!(trace.memory(0, 0).unwrap(), b"\x22");
+        assert_eq!(trace.memory(0, 1).unwrap(), b"ate");
+        assert!(stands_at(&file, 27, trace.memory(0, 0).unwrap()));
+        assert_eq!(trace.memory(0, 4), Err(Refusal::NotFound));
+        assert_eq!(trace.memory(1, 0), Err(Refusal::NotFound));
+    }
+}
+
+#[test]
+fn variables_are_signed_and_the_earliest_counts() {
+    for order in ORDERS {
+        let file = trace(
+            "",
+            &[frame(order, 1, &[variable(order, 1, -1), variable(order, 1, 4), variable(order, 2, i64::MIN)])],
+        );
+        let trace = Trace::open(order, &file).unwrap();
+        assert_eq!(trace.variable(0, 1), Ok(-1));
+        assert_eq!(trace.variable(0, 2), Ok(i64::MIN));
+        assert_eq!(trace.variable(0, 3), Err(Refusal::NotFound));
+        assert_eq!(trace.variable(1, 1), Err(Refusal::NotFound));
+    }
+}
+
+/// The place of each block, asked in the file itself.
+fn places_in_file(order: Order, file: &[u8], n: usize) -> Vec<usize> {
+    (0..).map_while(|k| raw::block_record(order, file, n, k).ok()).map(|block| block.place).collect()
+}
+
+#[test]
+fn a_long_frame_is_read_block_by_block() {
+    for order in ORDERS {
+        let block = |i: u32| match i % 3 {
+            0 => registers(b"MVR"),
+            1 => memory(order, i.into(), &vec![b'M'; i as usize % 70]),
+            _ => variable(order, i, -i64::from(i)),
+        };
+        let blocks: Vec<Vec<u8>> = (0..400).map(block).collect();
+        let file = trace("R 3\n", &[frame(order, 1, &blocks), frame(order, 2, &blocks[..1])]);
+        let trace = Trace::open(order, &file).unwrap();
+        let got: Vec<usize> = trace.blocks(0).unwrap().map(|block| block.place).collect();
+        assert_eq!(got.len(), blocks.len());
+        assert_eq!(got, places_in_file(order, &file, 0));
+    }
+}
+
+/// A frame's own questions ask the library in a small trace; in the file itself it gives the same answers.
+#[test]
+fn answers_are_those_of_the_whole_file() {
+    let order = Order::Little;
+    let trace = Trace::open(order, BOARD).unwrap();
+    let part = |found: raw::Place| &BOARD[found.place..found.place + found.length];
+    assert_eq!(trace.frame_count(), 6);
+    for n in 0..7 {
+        let places: Vec<usize> = trace.blocks(n).into_iter().flatten().map(|block| block.place).collect();
+        assert_eq!(places, places_in_file(order, BOARD, n));
+        assert_eq!(trace.registers(n), raw::registers_place(order, BOARD, n).map(part));
+        for address in [0, 1, 2, 0x7FEFB0, 0x7FEFD4, 0x7FF000, 0x7FF00F, 0x7FF010, u64::MAX] {
+            assert_eq!(trace.memory(n, address), raw::memory_place(order, BOARD, n, address).map(part));
+        }
+        for number in 0..4 {
+            assert_eq!(trace.variable(n, number), raw::variable(order, BOARD, n, number).map(|v| v.value));
+        }
+    }
+}

@@ -1,0 +1,243 @@
+//! A GDB trace and its frames.
+use crate::blocks::{Blocks, Manner};
+use crate::lines::{Line, LineKind, Lines};
+use crate::{raw, Order, Refusal};
+
+/// What every GDB trace starts with.
+pub(crate) const HEAD: &[u8] = b"\x7fTRACE0\n";
+
+/// A tracepoint number and a size stand before a frame's data.
+const FRAME_HEAD: usize = 6;
+
+/// A GDB trace that was read whole and accepted.
+///
+/// Opening it reads the file twice, makes the frame table and finds the R line. Each later question costs in the order of the
+/// frame, or of the description, that it is about.
+#[derive(Clone, Debug)]
+pub struct Trace<'a> {
+    order: Order,
+    file: &'a [u8],
+    /// The R line with its end; empty where there is none.
+    register_line: &'a [u8],
+    frames: Vec<raw::Frame>,
+}
+
+impl<'a> Trace<'a> {
+    /// The trace in a file, whose numbers have this byte order.
+    ///
+    /// ```
+    /// use tufakpeni::{Order, Refusal, Trace};
+    ///
+    /// let file = b"\x7fTRACE0\n\n\x01\0\0\0\0\0";
+    /// assert_eq!(Trace::open(Order::Little, file)?.frame_count(), 1);
+    /// assert_eq!(Trace::open(Order::Little, &file[..14]).unwrap_err(), Refusal::ShortHead);
+    /// # Ok::<(), Refusal>(())
+    /// ```
+    pub fn open(order: Order, file: &'a [u8]) -> Result<Trace<'a>, Refusal> {
+        let count = raw::frame_count(order, file)?.count;
+        let mut frames = vec![raw::Frame { tracepoint: 0, place: 0, size: 0 }; count];
+        raw::frame_table(order, file, &mut frames)?;
+        let mut trace = Trace { order, file, register_line: &[], frames };
+        trace.register_line = trace.find_register_line();
+        Ok(trace)
+    }
+
+    fn find_register_line(&self) -> &'a [u8] {
+        match self.lines().find(|line| line.kind == LineKind::R) {
+            Some(line) => &self.file[line.place..line.place + line.bytes.len() + 1],
+            None => &[],
+        }
+    }
+
+    /// The byte order that it was opened with.
+    pub fn order(&self) -> Order {
+        self.order
+    }
+
+    /// The head and the description, with the empty line that closes it.
+    pub fn opening(&self) -> &'a [u8] {
+        let end = match self.frames.first() {
+            Some(frame) => frame.place - FRAME_HEAD,
+            None => self.file.len(),
+        };
+        &self.file[..end]
+    }
+
+    /// The lines of the description, without the closing empty line.
+    ///
+    /// ```
+    /// use tufakpeni::{LineKind, Order, Trace};
+    ///
+    /// let trace = Trace::open(Order::Little, b"\x7fTRACE0\nR 776\nstatus 0\n\n")?;
+    /// let kinds: Vec<LineKind> = trace.lines().map(|line| line.kind).collect();
+    /// assert_eq!(kinds, [LineKind::R, LineKind::Status]);
+    /// assert_eq!(trace.lines().next().unwrap().bytes, b"R 776");
+    /// # Ok::<(), tufakpeni::Refusal>(())
+    /// ```
+    pub fn lines(&self) -> Lines<'a> {
+        let closing = self.opening().len() - 1;
+        Lines::new(self.order, self.file, HEAD.len()..closing)
+    }
+
+    /// Line j of the description. The opening alone is a trace, so that the library is asked there.
+    pub fn line(&self, j: usize) -> Result<Line<'a>, Refusal> {
+        let line = raw::line_place(self.order, self.opening(), j)?;
+        Ok(Line::new(&line, line.place, self.file))
+    }
+
+    pub fn frame_count(&self) -> usize {
+        self.frames.len()
+    }
+
+    /// The frames, in file order.
+    ///
+    /// ```
+    /// use tufakpeni::{Order, Trace};
+    ///
+    /// let trace = Trace::open(Order::Big, b"\x7fTRACE0\n\n\0\x05\0\0\0\0\0\x07\0\0\0\0")?;
+    /// let numbers: Vec<u16> = trace.frames().map(|frame| frame.tracepoint()).collect();
+    /// assert_eq!(numbers, [5, 7]);
+    /// # Ok::<(), tufakpeni::Refusal>(())
+    /// ```
+    pub fn frames(&self) -> impl ExactSizeIterator<Item = Frame<'a>> + DoubleEndedIterator + '_ {
+        self.frames.iter().enumerate().map(|(number, record)| self.frame_of(number, record))
+    }
+
+    /// Frame n.
+    pub fn frame(&self, n: usize) -> Result<Frame<'a>, Refusal> {
+        let record = self.frames.get(n).ok_or(Refusal::NotFound)?;
+        Ok(self.frame_of(n, record))
+    }
+
+    fn frame_of(&self, number: usize, record: &raw::Frame) -> Frame<'a> {
+        let manner = Manner { order: self.order, register_line: self.register_line, tracepoint: record.tracepoint };
+        Frame { file: self.file, number, record: *record, manner }
+    }
+
+    /// The blocks of frame n. See [`Frame::blocks`].
+    pub fn blocks(&self, n: usize) -> Result<Blocks<'a>, Refusal> {
+        Ok(self.frame(n)?.blocks())
+    }
+
+    /// The registers of frame n. See [`Frame::registers`].
+    pub fn registers(&self, n: usize) -> Result<&'a [u8], Refusal> {
+        self.frame(n)?.registers()
+    }
+
+    /// Memory at an address in frame n. See [`Frame::memory`].
+    pub fn memory(&self, n: usize, address: u64) -> Result<&'a [u8], Refusal> {
+        self.frame(n)?.memory(address)
+    }
+
+    /// The value of a variable in frame n. See [`Frame::variable`].
+    pub fn variable(&self, n: usize, number: u32) -> Result<i64, Refusal> {
+        self.frame(n)?.variable(number)
+    }
+}
+
+/// A frame of a trace: what was collected at one hit of a tracepoint.
+///
+/// Its blocks depend on the byte order, the R line and its data alone. So the library is asked about them in a trace that has the
+/// R line and this frame and nothing else, and the place it answers is moved to the file: a question costs in the order of the
+/// frame, where in the file it would cost a reading of all of it.
+#[derive(Clone, Copy, Debug)]
+pub struct Frame<'a> {
+    file: &'a [u8],
+    number: usize,
+    record: raw::Frame,
+    manner: Manner<'a>,
+}
+
+impl<'a> Frame<'a> {
+    /// Which frame of the trace it is, from 0.
+    pub fn number(&self) -> usize {
+        self.number
+    }
+
+    /// The number of the tracepoint that it was collected at.
+    pub fn tracepoint(&self) -> u16 {
+        self.record.tracepoint
+    }
+
+    /// Where its data start in the file. Those of an empty frame have a place too, which may be the file's length.
+    pub fn place(&self) -> usize {
+        self.record.place
+    }
+
+    /// Its data, as that part of the caller's file.
+    pub fn data(&self) -> &'a [u8] {
+        self.part(self.record.place, self.record.size)
+    }
+
+    fn part(&self, place: usize, length: usize) -> &'a [u8] {
+        &self.file[place..place + length]
+    }
+
+    /// Its blocks, in order.
+    ///
+    /// ```
+    /// use tufakpeni::{Block, Content, Order, Trace};
+    ///
+    /// let file = b"\x7fTRACE0\nR 2\n\n\x01\0\x03\0\0\0R\xAA\xBB";
+    /// let trace = Trace::open(Order::Little, file)?;
+    /// let blocks: Vec<Block> = trace.frame(0)?.blocks().collect();
+    /// assert_eq!(blocks, [Block { place: 19, content: Content::Registers(&[0xAA, 0xBB]) }]);
+    /// # Ok::<(), tufakpeni::Refusal>(())
+    /// ```
+    pub fn blocks(&self) -> Blocks<'a> {
+        let end = self.record.place + self.record.size;
+        Blocks::new(self.manner, self.file, self.record.place..end)
+    }
+
+    /// This frame as the only one of a trace, and where its data stand in it.
+    fn alone(&self) -> (Vec<u8>, usize) {
+        let mut trace = Vec::new();
+        let place = self.manner.dress(self.data(), &mut trace);
+        (trace, place)
+    }
+
+    /// The part of the caller's file that is `found` in the trace of this frame alone, whose data stand at `data`.
+    fn moved(&self, found: raw::Place, data: usize) -> &'a [u8] {
+        self.part(found.place - data + self.record.place, found.length)
+    }
+
+    /// The bytes of its earliest `R` block.
+    pub fn registers(&self) -> Result<&'a [u8], Refusal> {
+        let (alone, data) = self.alone();
+        let found = raw::registers_place(self.manner.order, &alone, 0)?;
+        Ok(self.moved(found, data))
+    }
+
+    /// Memory from an address to the end of the earliest block that covers it. A block at the top of the address space runs on at address 0.
+    ///
+    /// ```
+    /// use tufakpeni::{Order, Refusal, Trace};
+    ///
+    /// let file = b"\x7fTRACE0\n\n\x01\0\x0D\0\0\0M\xFF\xFF\xFF\xFF\xFF\xFF\xFF\xFF\x02\0\x11\x22";
+    /// let trace = Trace::open(Order::Little, file)?;
+    /// assert_eq!(trace.frame(0)?.memory(u64::MAX)?, [0x11, 0x22]);
+    /// assert_eq!(trace.frame(0)?.memory(0)?, [0x22]);
+    /// assert_eq!(trace.frame(0)?.memory(1), Err(Refusal::NotFound));
+    /// # Ok::<(), Refusal>(())
+    /// ```
+    pub fn memory(&self, address: u64) -> Result<&'a [u8], Refusal> {
+        let (alone, data) = self.alone();
+        let found = raw::memory_place(self.manner.order, &alone, 0, address)?;
+        Ok(self.moved(found, data))
+    }
+
+    /// The value in the earliest `V` block of that number.
+    ///
+    /// ```
+    /// use tufakpeni::{Order, Trace};
+    ///
+    /// let file = b"\x7fTRACE0\n\n\x01\0\x0D\0\0\0V\x01\0\0\0\xFF\xFF\xFF\xFF\xFF\xFF\xFF\xFF";
+    /// let trace = Trace::open(Order::Little, file)?;
+    /// assert_eq!(trace.frame(0)?.variable(1)?, -1);
+    /// # Ok::<(), tufakpeni::Refusal>(())
+    /// ```
+    pub fn variable(&self, number: u32) -> Result<i64, Refusal> {
+        let (alone, _) = self.alone();
+        Ok(raw::variable(self.manner.order, &alone, 0, number)?.value)
+    }
+}
