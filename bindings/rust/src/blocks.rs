@@ -31,8 +31,10 @@ pub(crate) struct Manner<'a> {
     pub order: Order,
     /// The R line with its end; empty where there is none.
     pub register_line: &'a [u8],
-    pub tracepoint: u16,
 }
+
+/// The tracepoint number of a frame that is dressed: any would do, and this one has the same bytes in both orders.
+const TRACEPOINT: [u8; 2] = [1, 1];
 
 impl Manner<'_> {
     /// Makes `trace` a trace of one frame with these blocks, and answers where they stand in it.
@@ -42,7 +44,7 @@ impl Manner<'_> {
         trace.extend_from_slice(HEAD);
         trace.extend_from_slice(self.register_line);
         trace.push(b'\n');
-        trace.extend_from_slice(&self.order.two_bytes(self.tracepoint));
+        trace.extend_from_slice(&TRACEPOINT);
         trace.extend_from_slice(&self.order.four_bytes(size));
         let place = trace.len();
         trace.extend_from_slice(blocks);

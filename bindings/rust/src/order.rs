@@ -26,13 +26,6 @@ impl Order {
         }
     }
 
-    pub(crate) fn two_bytes(self, n: u16) -> [u8; 2] {
-        match self {
-            Order::Little => n.to_le_bytes(),
-            Order::Big => n.to_be_bytes(),
-        }
-    }
-
     pub(crate) fn four_bytes(self, n: u32) -> [u8; 4] {
         match self {
             Order::Little => n.to_le_bytes(),

@@ -15,10 +15,8 @@ const FRAME_HEAD: usize = 6;
 /// frame, or of the description, that it is about.
 #[derive(Clone, Debug)]
 pub struct Trace<'a> {
-    order: Order,
     file: &'a [u8],
-    /// The R line with its end; empty where there is none.
-    register_line: &'a [u8],
+    manner: Manner<'a>,
     frames: Vec<raw::Frame>,
 }
 
@@ -37,12 +35,14 @@ impl<'a> Trace<'a> {
         let count = raw::frame_count(order, file)?.count;
         let mut frames = vec![raw::Frame { tracepoint: 0, place: 0, size: 0 }; count];
         raw::frame_table(order, file, &mut frames)?;
-        let mut trace = Trace { order, file, register_line: &[], frames };
-        trace.register_line = trace.find_register_line();
+        let manner = Manner { order, register_line: &[] };
+        let mut trace = Trace { file, manner, frames };
+        trace.manner.register_line = trace.register_line();
         Ok(trace)
     }
 
-    fn find_register_line(&self) -> &'a [u8] {
+    /// The R line with its end; empty where there is none.
+    fn register_line(&self) -> &'a [u8] {
         match self.lines().find(|line| line.kind == LineKind::R) {
             Some(line) => &self.file[line.place..line.place + line.bytes.len() + 1],
             None => &[],
@@ -51,7 +51,7 @@ impl<'a> Trace<'a> {
 
     /// The byte order that it was opened with.
     pub fn order(&self) -> Order {
-        self.order
+        self.manner.order
     }
 
     /// The head and the description, with the empty line that closes it.
@@ -76,12 +76,12 @@ impl<'a> Trace<'a> {
     /// ```
     pub fn lines(&self) -> Lines<'a> {
         let closing = self.opening().len() - 1;
-        Lines::new(self.order, self.file, HEAD.len()..closing)
+        Lines::new(self.order(), self.file, HEAD.len()..closing)
     }
 
     /// Line j of the description. The opening alone is a trace, so that the library is asked there.
     pub fn line(&self, j: usize) -> Result<Line<'a>, Refusal> {
-        let line = raw::line_place(self.order, self.opening(), j)?;
+        let line = raw::line_place(self.order(), self.opening(), j)?;
         Ok(Line::new(&line, line.place, self.file))
     }
 
@@ -110,8 +110,7 @@ impl<'a> Trace<'a> {
     }
 
     fn frame_of(&self, number: usize, record: &raw::Frame) -> Frame<'a> {
-        let manner = Manner { order: self.order, register_line: self.register_line, tracepoint: record.tracepoint };
-        Frame { file: self.file, number, record: *record, manner }
+        Frame { file: self.file, number, record: *record, manner: self.manner }
     }
 
     /// The blocks of frame n. See [`Frame::blocks`].
