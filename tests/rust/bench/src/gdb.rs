@@ -1,0 +1,180 @@
+//! Questions about GDB traces, cut and join.
+use crate::files::{self, Frames, LAST_ADDRESS, LONGEST, NUMBERS};
+use crate::question::{Side, Told};
+use crate::table::Row;
+use crate::timing::{in_turn, Times};
+use std::hint::black_box;
+use tufakpeni_tests::c::{Range, Selection};
+use tufakpeni_tests::reader::{fields, Record};
+use tufakpeni_tests::second::gdb::{Frame, Trace};
+use tufakpeni_tests::second::Part;
+
+/// What the questions are asked about, and what they write to.
+struct Work {
+    order: u8,
+    file: Vec<u8>,
+    /// Two traces of half the length, to be joined.
+    first: Vec<u8>,
+    second: Vec<u8>,
+    out: Vec<u8>,
+    /// The library's frame table and that of plain Rust.
+    records: Vec<Record>,
+    frames: Vec<Frame>,
+}
+
+impl Work {
+    /// Every buffer is written here, so that no call is the first to touch one.
+    fn new(frames: Frames, big: bool) -> Work {
+        let file = files::trace(frames, big, LONGEST);
+        let half = files::trace(frames, big, LONGEST / 2);
+        let order = u8::from(big);
+        let count = (Side::Plain.reader().frame_count)(order, &file).count;
+        let frame = Frame { tracepoint: 1, data: Part { place: 1, length: 1 } };
+        Work {
+            order,
+            file,
+            second: half.clone(),
+            first: half,
+            out: vec![1; LONGEST],
+            records: vec![[1; 3]; count],
+            frames: vec![frame; count],
+        }
+    }
+
+    fn last(&self) -> usize {
+        self.records.len() - 1
+    }
+}
+
+fn frame_count(side: Side, work: &mut Work) -> Told {
+    let answer = (side.reader().frame_count)(work.order, black_box(&work.file));
+    (answer.refusal, answer.count, 0)
+}
+
+/// The second reader's own call, since its answer in the library's struct makes a copy of the table.
+fn frame_table(side: Side, work: &mut Work) -> Told {
+    let file = black_box(&work.file[..]);
+    match side {
+        Side::Library => {
+            let answer = (side.reader().frame_table)(work.order, file, &mut work.records);
+            (answer.refusal, answer.count, 0)
+        }
+        Side::Plain => match Trace::read(work.order, file).and_then(|trace| trace.frame_table(&mut work.frames)) {
+            Ok(count) => (0, count, 0),
+            Err(refusal) => (refusal as u8, 0, 0),
+        },
+    }
+}
+
+fn last_frame(side: Side, work: &mut Work) -> Told {
+    let answer = (side.reader().frame_place)(work.order, black_box(&work.file), work.last());
+    (answer.refusal, answer.place, answer.length)
+}
+
+fn last_memory(side: Side, work: &mut Work) -> Told {
+    let answer = (side.reader().memory_place)(work.order, black_box(&work.file), work.last(), LAST_ADDRESS + 5);
+    (answer.refusal, answer.place, answer.length)
+}
+
+fn cut(side: Side, work: &mut Work) -> Told {
+    let mut selection = Selection { count: 1, keep: 1, ..Selection::default() };
+    selection.ranges[0] = Range { low: 1, high: NUMBERS as u16 / 2 };
+    let answer = (side.reader().cut)(work.order, black_box(&work.file), selection, &mut work.out);
+    (answer.refusal, answer.length, 0)
+}
+
+fn join(side: Side, work: &mut Work) -> Told {
+    let (first, second) = black_box((&work.first, &work.second));
+    let answer = (side.reader().join)(work.order, first, second, &mut work.out);
+    (answer.refusal, answer.length, 0)
+}
+
+fn copy_of_cut(work: &mut Work, length: usize) {
+    work.out[..length].copy_from_slice(black_box(&work.file[..length]));
+}
+
+fn copy_of_join(work: &mut Work, length: usize) {
+    let (front, back) = work.out[..length].split_at_mut(work.first.len());
+    front.copy_from_slice(black_box(&work.first));
+    back.copy_from_slice(black_box(&work.second[work.second.len() - back.len()..]));
+}
+
+struct Question {
+    name: &'static str,
+    ask: fn(Side, &mut Work) -> Told,
+    /// A copy as long as the result, where the question writes one.
+    copy: Option<fn(&mut Work, usize)>,
+}
+
+const QUESTIONS: [Question; 6] = [
+    Question { name: "number of frames", ask: frame_count, copy: None },
+    Question { name: "frame table", ask: frame_table, copy: None },
+    Question { name: "last frame", ask: last_frame, copy: None },
+    Question { name: "memory in the last frame", ask: last_memory, copy: None },
+    Question { name: "cut, half kept", ask: cut, copy: Some(copy_of_cut) },
+    Question { name: "join of two halves", ask: join, copy: Some(copy_of_join) },
+];
+
+impl Question {
+    /// Both readers give one answer and one output; the answer.
+    fn compare(&self, work: &mut Work) -> Told {
+        work.out.fill(1);
+        let library = (self.ask)(Side::Library, work);
+        let written = work.out.clone();
+        work.out.fill(1);
+        let plain = (self.ask)(Side::Plain, work);
+        assert_eq!(library, plain, "{}", self.name);
+        assert!(written == work.out, "{}: the outputs differ", self.name);
+        library
+    }
+
+    /// The times of the library, of plain Rust and of the copy.
+    fn times(&self, rounds: usize, work: &mut Work, length: usize) -> (Times, Times, Option<Times>) {
+        let [library, plain] = [Side::Library, Side::Plain].map(|side| {
+            move |work: &mut Work| {
+                black_box((self.ask)(side, work));
+            }
+        });
+        match self.copy {
+            None => {
+                let [library, plain] = in_turn(rounds, work, [&library, &plain]);
+                (library, plain, None)
+            }
+            Some(copy) => {
+                let copy = |work: &mut Work| copy(work, length);
+                let [library, plain, copy] = in_turn(rounds, work, [&library, &plain, &copy]);
+                (library, plain, Some(copy))
+            }
+        }
+    }
+}
+
+fn compare_tables(work: &Work) {
+    let same = work.records.iter().zip(&work.frames).all(|(record, frame)| {
+        let record = fields(record);
+        record.tracepoint == frame.tracepoint && record.place == frame.data.place && record.size == frame.data.length
+    });
+    assert!(same, "the frame tables differ");
+}
+
+/// Each kind of frame, with the ratio to plain Rust that is not to be passed.
+const FILES: [(&str, Frames, f64); 3] = [
+    ("796-byte frames", Frames::Registers, 1.05),
+    ("114-byte frames", Frames::Memory, 1.2),
+    ("19-byte frames", Frames::Variable, 1.2),
+];
+
+pub fn run(rounds: usize) {
+    for (file, frames, goal) in FILES {
+        for big in [false, true] {
+            let mut work = Work::new(frames, big);
+            for question in &QUESTIONS {
+                let (_, length, _) = question.compare(&mut work);
+                let (library, plain, copy) = question.times(rounds, &mut work, length);
+                let bytes = work.file.len();
+                Row { file, big, question: question.name, bytes, library, plain, copy, goal }.print();
+            }
+            compare_tables(&work);
+        }
+    }
+}
