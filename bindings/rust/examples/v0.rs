@@ -1,7 +1,7 @@
 //! Prints v0 of each frame of a little-endian trace, for the board whose register block is 33 general words of 8 bytes and then
 //! v0 to v31 of 16 bytes each.
 //!
-//!     cargo run --release --example v0 -- ../../samples/board.tf
+//!     cargo run --release --example v0 -- ../../samples/masks.tf
 use std::error::Error;
 use std::{env, fs};
 use tufakpeni::{Frame, Order, Refusal, Trace};
@@ -9,23 +9,24 @@ use tufakpeni::{Frame, Order, Refusal, Trace};
 const BLOCK: usize = 776;
 const V0: std::ops::Range<usize> = 264..280;
 
-/// v0 in hexadecimal digits, in the order of its bytes.
-fn v0_of(frame: &Frame) -> Result<String, Box<dyn Error>> {
+/// v0 of a frame, as text: its bytes in hexadecimal.
+fn v0_of(frame: &Frame) -> Result<String, Refusal> {
     let registers = match frame.registers() {
         Err(Refusal::NotFound) => return Ok("no registers".to_string()),
         answer => answer?,
     };
     if registers.len() != BLOCK {
-        return Err(format!("a register block of {} bytes, not {BLOCK}", registers.len()).into());
+        return Ok(format!("a register block of {} bytes", registers.len()));
     }
-    Ok(registers[V0].iter().map(|byte| format!("{byte:02x}")).collect())
+    let digits: Vec<_> = registers[V0].iter().map(|byte| format!("{byte:02x}")).collect();
+    Ok(digits.join(" "))
 }
 
 fn main() -> Result<(), Box<dyn Error>> {
     let name = env::args().nth(1).ok_or("usage: v0 FILE")?;
     let file = fs::read(name)?;
     for frame in Trace::open(Order::Little, &file)?.frames() {
-        println!("{} {} {}", frame.number(), frame.tracepoint(), v0_of(&frame)?);
+        println!("frame {}, tracepoint {}: {}", frame.number(), frame.tracepoint(), v0_of(&frame)?);
     }
     Ok(())
 }
