@@ -2,7 +2,7 @@
 -- Assumes nothing.
 use mathlib.Core.Path.{_≡_, refl, sym, ap}
 use mathlib.Core.Option.{Option, none, some}
-use Prim.Native.Nat.{ℕ, _+_, _-_, _<_, _≤_}
+use Prim.Native.Nat.{ℕ, _+_, _<_, _≤_}
 use native.Mathlib.Nat.{zero-add, add-zero}
 use native.Mathlib.Omega.{arith}
 use mathlib.Core.List.{List, _∷_}
@@ -15,7 +15,7 @@ use Rattle.gdb_format.specs.Decode.{block, frame, frames}
 use Rattle.gdb_format.specs.ExactBlock.{takes-block}
 use Rattle.gdb_format.specs.ExactFrame.{takes-frame}
 use Rattle.gdb_format.specs.declared.Format.{Format}
-use Rattle.gdb_read.specs.Steps.{Carried, blockSeen, blocksFill, Row, frameSeen}
+use Rattle.gdb_read.specs.Steps.{blockPassed, blocksFill, Row, frameSeen}
 
 -- ---- blocks
 
@@ -24,16 +24,16 @@ fill-more (accepted l) b = refl
 fill-more (refused n) b = refl
 
 module _ (f : Format) (size : Option ℕ) (d : List ℕ) (at : ℕ) where
-  pub fill-end : accepted none ≡ stepAt blockSeen (block f size) d at → accepted tt ≡ blocksFill f size (drop at d)
-  fill-end e = rw (walk-end blockSeen (block f size) (takes-block f size) d at (sym e))
+  pub fill-end : accepted none ≡ stepAt blockPassed (block f size) d at → accepted tt ≡ blocksFill f size (drop at d)
+  fill-end e = rw (walk-end blockPassed (block f size) (takes-block f size) d at (sym e))
 
-  pub fill-refused : (n : ℕ) → refused n ≡ stepAt blockSeen (block f size) d at → refused n ≡ blocksFill f size (drop at d)
-  fill-refused n e = rw (walk-refused blockSeen (block f size) (takes-block f size) d at n (sym e))
+  pub fill-refused : (n : ℕ) → refused n ≡ stepAt blockPassed (block f size) d at → refused n ≡ blocksFill f size (drop at d)
+  fill-refused n e = rw (walk-refused blockPassed (block f size) (takes-block f size) d at n (sym e))
 
-  pub fill-turn : (v : ℕ × Carried) (m : ℕ) → accepted (some (v, m)) ≡ stepAt blockSeen (block f size) d at
+  pub fill-turn : (m : ℕ) → accepted (some (tt, m)) ≡ stepAt blockPassed (block f size) d at
       → (at < m) × (m ≤ length d) × (blocksFill f size (drop m d) ≡ blocksFill f size (drop at d))
-  fill-turn v m e =
-      let t = walk-more blockSeen (block f size) (takes-block f size) d at v m (sym e) in
+  fill-turn m e =
+      let t = walk-more blockPassed (block f size) (takes-block f size) d at tt m (sym e) in
       (t .later, t .within, sym (rw (t .more) (fill-more (toEnd (block f size) (drop m d)) (t .element))))
 
 -- ---- frames

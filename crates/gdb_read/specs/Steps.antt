@@ -1,10 +1,14 @@
 -- What the walk's steps and the whole reading answer, in the paper's terms.
 -- Assumes nothing: these are definitions.
+use mathlib.Core.Bool.{cond}
 use mathlib.Core.Option.{Option, none, some}
 use Prim.Native.Nat.{ℕ, _+_, _-_}
 use mathlib.Core.List.{List}
-use lib.ListN.{length}
+use lib.ListN.{length, getD}
+use lib.Dec.{eqb}
 use lib.IntN.{ℤ}
+use Rattle.fields.specs.Number.{wordAt}
+use Rattle.fields.specs.Signed.{signed64}
 use Rattle.fields.specs.Answer.{Answer, accepted, refused, next}
 use Rattle.fields.specs.Reader.{toEnd}
 use Rattle.gdb_format.specs.Trace.{Block, Frame, Trace, dataOf, opening}
@@ -18,6 +22,8 @@ use Rattle.gdb_read.specs.declared.BlockKind.the-variants.{Registers, Me
 use Rattle.gdb_read.specs.declared.BlockRecord.{BlockRecord}
 use Rattle.gdb_read.specs.declared.BlockStep.{BlockStep}
 use Rattle.gdb_read.specs.declared.BlockStep.the-variants as step
+use Rattle.gdb_read.specs.declared.BlockEnd.{BlockEnd}
+use Rattle.gdb_read.specs.declared.BlockEnd.the-variants as blockend
 use Rattle.gdb_read.specs.declared.Verdict.{Verdict}
 use Rattle.gdb_read.specs.declared.Verdict.the-variants as verdict
 use Rattle.gdb_read.specs.declared.FrameHead.{FrameHead}
@@ -60,9 +66,25 @@ blockMeaning step.End = accepted none
 blockMeaning (step.Block r m) = accepted (some (blockIn r, m))
 blockMeaning (step.Refused n) = refused n
 
--- a block whose letter stands at `at`, by the reading of its content, in data of length `end`
-abbrev pub contentSeen : ℕ → ℕ → Answer (Block × List ℕ) → Answer (Option ((ℕ × Carried) × ℕ))
-contentSeen at end x = next x (λ r. accepted (some (blockSeen at (r .0), end - length (r .1))))
+-- the kind of the block whose letter stands at `at`
+abbrev pub kindAt : Format → List ℕ → ℕ → Carried
+kindAt f d at =
+    cond (eqb (getD d at 0) 0x52) registers
+    (cond (eqb (getD d at 0) 0x4D) (memory (wordAt (f .order) 8 d (at + 1)) (wordAt (f .order) 2 d (at + 9)))
+    (variable (wordAt (f .order) 4 d (at + 1)) (signed64 (wordAt (f .order) 8 d (at + 5)))))
+
+-- of a block that is passed over nothing is told but where it ends
+abbrev pub blockPassed : ℕ → Block → Unit {0}
+blockPassed at b = tt
+
+abbrev pub endMeaning : BlockEnd → Answer (Option (Unit {0} × ℕ))
+endMeaning blockend.End = accepted none
+endMeaning (blockend.At m) = accepted (some (tt, m))
+endMeaning (blockend.Refused n) = refused n
+
+-- by the reading of a block's content, or of a piece of it, in data of length `end`
+abbrev pub contentEnd : {A : Type 0} → ℕ → Answer (A × List ℕ) → Answer (Option (Unit {0} × ℕ))
+contentEnd end x = next x (λ r. accepted (some (tt, end - length (r .1))))
 
 -- blocks fill the data exactly
 abbrev pub verdictMeaning : Verdict → Answer (Unit {0})

@@ -1,12 +1,13 @@
 // Reading a GDB trace: what stands at a place, block by block and frame by frame, and the whole file.
 ghost use mathlib.Core.Path.{_≡_};
-ghost use Prim.Native.Nat.{_+_, _<_};
+ghost use Prim.Native.Nat.{_<_, _≤_};
 ghost use lib.ListN.{length, drop};
-ghost use Rattle.fields.specs.Reader.{stepAt};
+ghost use Rattle.refusals.specs.Refusal.{blockPastData};
+ghost use Rattle.fields.specs.Reader.{bytes, stepAt};
 ghost use Rattle.gdb_format.specs.Opening.{sizeIn};
-ghost use Rattle.gdb_format.specs.Decode.{registerBlock, memoryBlock, variableBlock, block, frameHead, frame, decode};
+ghost use Rattle.gdb_format.specs.Decode.{registerBlock, memoryBlock, block, frameHead, frame, decode};
 ghost use Rattle.gdb_format.specs.Decode.{read as fileRead};
-ghost use Rattle.gdb_read.specs.Steps.{blockMeaning, blockSeen, contentSeen, verdictMeaning, blocksFill, frameMeaning, headSeen, frameSeen, countMeaning, framesCounted, readingMeaning, summaryIn, readSeen};
+ghost use Rattle.gdb_read.specs.Steps.{kindMeaning, blockMeaning, blockSeen, endMeaning, blockPassed, contentEnd, kindAt, verdictMeaning, blocksFill, frameMeaning, headSeen, frameSeen, countMeaning, framesCounted, readingMeaning, summaryIn, readSeen};
 use gdb_format::Checked;
 use gdb_format::Format;
 use gdb_format::Opening;
@@ -46,68 +47,88 @@ pub enum BlockStep {
     Refused(u8),
 }
 
-// The content of a register block whose letter stands at `place`.
-fn registers_at(size: RegisterSize, d: &[u8], place: usize) -> BlockStep
-    requires { ⌜ place < length (now d) ⌝ }
-    ensures { λ r. ⌜ blockMeaning r ≡ contentSeen place (length (now (d .entry))) (registerBlock (sizeIn size) (drop (place + 1) (now (d .entry)))) ⌝ }
+// Where a block ends: nothing where the data end, the place after the block, or a refusal. The walk that checks a file needs no more of it.
+enum BlockEnd {
+    End,
+    At(usize),
+    Refused(u8),
+}
+
+// n bytes from `at` on.
+fn bytes_end(d: &[u8], at: usize, n: usize) -> BlockEnd
+    requires { ⌜ at ≤ length (now d) ⌝ }
+    ensures { λ r. ⌜ endMeaning r ≡ contentEnd (length (now (d .entry))) (bytes n blockPastData (drop at (now (d .entry)))) ⌝ }
+{
+    if d.len() - at < n {
+        return BlockEnd::Refused(BLOCK_PAST_DATA);
+    }
+    BlockEnd::At(at + n)
+}
+
+// The content of a register block, from `at` on.
+fn registers_end(size: RegisterSize, d: &[u8], at: usize) -> BlockEnd
+    requires { ⌜ at ≤ length (now d) ⌝ }
+    ensures { λ r. ⌜ endMeaning r ≡ contentEnd (length (now (d .entry))) (registerBlock (sizeIn size) (drop at (now (d .entry)))) ⌝ }
 {
     let RegisterSize::Bytes(n) = size else {
-        return BlockStep::Refused(NO_REGISTER_SIZE);
+        return BlockEnd::Refused(NO_REGISTER_SIZE);
     };
-    let at = place + 1;
-    if d.len() - at < n {
-        return BlockStep::Refused(BLOCK_PAST_DATA);
-    }
-    BlockStep::Block {
-        record: BlockRecord {
-            place,
-            kind: BlockKind::Registers,
-        },
-        next: at + n,
-    }
+    bytes_end(d, at, n)
 }
 
-fn memory_at(format: Format, d: &[u8], place: usize) -> BlockStep
-    requires { ⌜ place < length (now d) ⌝ }
-    ensures { λ r. ⌜ blockMeaning r ≡ contentSeen place (length (now (d .entry))) (memoryBlock format (drop (place + 1) (now (d .entry)))) ⌝ }
+// The content of a memory block: address and length, and that many bytes.
+fn memory_end(format: Format, d: &[u8], at: usize) -> BlockEnd
+    requires { ⌜ at ≤ length (now d) ⌝ }
+    ensures { λ r. ⌜ endMeaning r ≡ contentEnd (length (now (d .entry))) (memoryBlock format (drop at (now (d .entry)))) ⌝ }
 {
-    let order = format.order;
-    let at = place + 1;
     if d.len() - at < 10 {
-        return BlockStep::Refused(BLOCK_PAST_DATA);
+        return BlockEnd::Refused(BLOCK_PAST_DATA);
     }
-    let address = fields::u64_at(d, order, at);
+    let order = format.order;
     let length = fields::u16_at(d, order, at + 8) as usize;
-    let body = at + 10;
-    if d.len() - body < length {
-        return BlockStep::Refused(BLOCK_PAST_DATA);
-    }
-    BlockStep::Block {
-        record: BlockRecord {
-            place,
-            kind: BlockKind::Memory(MemorySpan { address, length }),
-        },
-        next: body + length,
-    }
+    bytes_end(d, at + 10, length)
 }
 
-fn variable_at(format: Format, d: &[u8], place: usize) -> BlockStep
-    requires { ⌜ place < length (now d) ⌝ }
-    ensures { λ r. ⌜ blockMeaning r ≡ contentSeen place (length (now (d .entry))) (variableBlock format (drop (place + 1) (now (d .entry)))) ⌝ }
+// What stands at `at`, and where it ends.
+fn block_end(format: Format, size: RegisterSize, d: &[u8], at: usize) -> BlockEnd
+    ensures { λ r. ⌜ endMeaning r ≡ stepAt blockPassed (block format (sizeIn size)) (now (d .entry)) at ⌝ }
+{
+    if d.len() <= at {
+        return BlockEnd::End;
+    }
+    let letter = d[at];
+    let body = at + 1;
+    if letter == 82 {
+        return registers_end(size, d, body);
+    }
+    if letter == 77 {
+        return memory_end(format, d, body);
+    }
+    if letter == 86 {
+        return bytes_end(d, body, 12);
+    }
+    BlockEnd::Refused(BAD_LETTER)
+}
+
+// The kind of the block whose letter stands at `at`, with what it carries.
+fn kind_at(format: Format, d: &[u8], at: usize) -> BlockKind
+    requires { ⌜ at < length (now d) ⌝ }
+    ensures { λ r. ⌜ kindMeaning r ≡ kindAt format (now (d .entry)) at ⌝ }
 {
     let order = format.order;
-    let at = place + 1;
-    if d.len() - at < 12 {
-        return BlockStep::Refused(BLOCK_PAST_DATA);
+    let letter = d[at];
+    if letter == 82 {
+        return BlockKind::Registers;
     }
-    let number = fields::u32_at(d, order, at);
-    let value = fields::signed(fields::u64_at(d, order, at + 4));
-    BlockStep::Block {
-        record: BlockRecord {
-            place,
-            kind: BlockKind::Variable { number, value },
-        },
-        next: at + 12,
+    if letter == 77 {
+        return BlockKind::Memory(MemorySpan {
+            address: fields::u64_at(d, order, at + 1),
+            length: fields::u16_at(d, order, at + 9) as usize,
+        });
+    }
+    BlockKind::Variable {
+        number: fields::u32_at(d, order, at + 1),
+        value: fields::signed(fields::u64_at(d, order, at + 5)),
     }
 }
 
@@ -115,20 +136,17 @@ fn variable_at(format: Format, d: &[u8], place: usize) -> BlockStep
 pub fn block_at(format: Format, size: RegisterSize, d: &[u8], at: usize) -> BlockStep
     ensures { λ r. ⌜ blockMeaning r ≡ stepAt blockSeen (block format (sizeIn size)) (now (d .entry)) at ⌝ }
 {
-    if d.len() <= at {
-        return BlockStep::End;
+    match block_end(format, size, d, at) {
+        BlockEnd::End => BlockStep::End,
+        BlockEnd::Refused(n) => BlockStep::Refused(n),
+        BlockEnd::At(next) => BlockStep::Block {
+            record: BlockRecord {
+                place: at,
+                kind: kind_at(format, d, at),
+            },
+            next,
+        },
     }
-    let letter = d[at];
-    if letter == 82 {
-        return registers_at(size, d, at);
-    }
-    if letter == 77 {
-        return memory_at(format, d, at);
-    }
-    if letter == 86 {
-        return variable_at(format, d, at);
-    }
-    BlockStep::Refused(BAD_LETTER)
 }
 
 enum Verdict {
@@ -142,14 +160,14 @@ fn blocks_from(format: Format, size: RegisterSize, d: &[u8], from: usize) -> Ver
 {
     let mut at = from;
     loop {
-        match block_at(format, size, d, at) {
-            BlockStep::End => {
+        match block_end(format, size, d, at) {
+            BlockEnd::End => {
                 return Verdict::Sound;
             }
-            BlockStep::Refused(n) => {
+            BlockEnd::Refused(n) => {
                 return Verdict::Refused(n);
             }
-            BlockStep::Block { record: _, next } => {
+            BlockEnd::At(next) => {
                 at = next;
             }
         }

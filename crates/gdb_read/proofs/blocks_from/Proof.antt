@@ -4,7 +4,7 @@ use mathlib.Core.Path.{_≡_, refl, sym, ap, _∙_}
 use Prim.Native.Nat.{_-_}
 use lib.ListN.{length, drop}
 use Rattle.gdb_format.specs.Opening.{sizeIn}
-use Rattle.gdb_read.specs.Steps.{blockMeaning, blockIn, blocksFill}
+use Rattle.gdb_read.specs.Steps.{endMeaning, blocksFill}
 use Rattle.gdb_read.proofs.Walks.{fill-end, fill-refused, fill-turn}
 use borrow.Author.Needs.{needs}
 use native.Mathlib.Omega.{arith}
@@ -24,29 +24,25 @@ returns : tie.Need-returns Inv-loop μ-loop
 returns c =
     let a = c .before .before .before .before .before .args in
     let l = c .before .before .before .loop in
-    fill-end (a .format) (sizeIn (a .size)) (a .d .now) (l .at) (ap blockMeaning (sym (c .enum-told .given .1)) ∙ c .before .before .block-at .ensures) ∙ l .inv
+    fill-end (a .format) (sizeIn (a .size)) (a .d .now) (l .at) (ap endMeaning (sym (c .enum-told .given .1)) ∙ c .before .before .block-end .ensures) ∙ l .inv
 
 returns-2 : tie.Need-returns-2 Inv-loop μ-loop
 returns-2 c =
     let a = c .before .before .before .before .before .before .args in
     let l = c .before .before .before .before .loop in
-    let g = c .before .n .given in
-    fill-refused (a .format) (sizeIn (a .size)) (a .d .now) (l .at) (g .0 .0) (ap blockMeaning (sym (g .1)) ∙ c .before .before .before .block-at .ensures) ∙ l .inv
+    fill-refused (a .format) (sizeIn (a .size)) (a .d .now) (l .at) _ (ap endMeaning (sym (c .before .n .given .1)) ∙ c .before .before .before .block-end .ensures) ∙ l .inv
 
 loop-less : tie.Need-loop-less Inv-loop μ-loop
 loop-less c =
     let a = c .before .before .before .before .before .before .args in
-    let l = c .before .before .before .before .loop in
-    let g = c .before .next .given in
-    let t = fill-turn (a .format) (sizeIn (a .size)) (a .d .now) (l .at) (blockIn (g .0 .0)) (g .0 .1 .0) (ap blockMeaning (sym (g .1)) ∙ c .before .before .before .block-at .ensures) in
+    let t = fill-turn (a .format) (sizeIn (a .size)) (a .d .now) (c .before .before .before .before .loop .at) (c .before .next .given .0 .0) (ap endMeaning (sym (c .before .next .given .1)) ∙ c .before .before .before .block-end .ensures) in
     omega arith
 
 loop-again : tie.Need-loop-again Inv-loop μ-loop
 loop-again c =
     let a = c .before .before .before .before .before .before .args in
     let l = c .before .before .before .before .loop in
-    let g = c .before .next .given in
-    let t = fill-turn (a .format) (sizeIn (a .size)) (a .d .now) (l .at) (blockIn (g .0 .0)) (g .0 .1 .0) (ap blockMeaning (sym (g .1)) ∙ c .before .before .before .block-at .ensures) in
+    let t = fill-turn (a .format) (sizeIn (a .size)) (a .d .now) (l .at) (c .before .next .given .0 .0) (ap endMeaning (sym (c .before .next .given .1)) ∙ c .before .before .before .block-end .ensures) in
     t .2 ∙ l .inv
 
 pub blocks-from-spec : {M : Type 1} → statement M
