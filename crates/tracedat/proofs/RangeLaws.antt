@@ -1,21 +1,23 @@
 -- The tests of CPU ranges, case by case, and a turn of the walks over the entries.
 -- Assumes nothing.
 use mathlib.Core.Path.{_≡_, refl, sym, ap, _∙_}
-use mathlib.Core.Bool.{Bool, true, false, _&&_, _||_}
+use mathlib.Core.Bool.{Bool, true, false, cond, _&&_, _||_}
 use Prim.Native.Nat.{ℕ, zero, suc, _+_, _-_, _%_, _^_, _<_, _≤_}
-use native.Mathlib.Nat.{lt-of-not-le}
+use native.Mathlib.Nat.{le-refl, lt-of-not-le}
 use native.Mathlib.Decide.{decLe}
 use native.Mathlib.Omega.{arith}
 use mathlib.Core.Logic.{by-cases}
-use mathlib.Core.List.{List}
-use lib.Dec.{leb}
-use borrow.Author.Tests.{le-leb, lt-leb, ne-eqb}
+use mathlib.Core.List.{List, [], _∷_}
+use lib.Dec.{leb, eqb}
+use borrow.Author.Tests.{le-leb, lt-leb, leb-true, ne-eqb}
 use Rattle.fields.specs.Number.{wordAt}
+use Rattle.fields.specs.Word.{and-inv}
 use Rattle.fields.specs.declared.Order.{Order}
 use Rattle.dat_format.specs.Header.{Range}
 use Rattle.dat_format.specs.Layout.{aligned, inFile, apart, all, allApart}
 use Rattle.dat_format.specs.Entries.{entries}
-use Rattle.tracedat.specs.Ranges.{rangeOf}
+use Rattle.tracedat.specs.Ranges.{rangeOf, inOrder, Leads}
+use Rattle.tracedat.specs.declared.ranges.Later.the-variants.{At}
 
 leb-iff : (a b c d : ℕ) → (a ≤ b → c ≤ d) → (c ≤ d → a ≤ b) → leb a b ≡ leb c d
 leb-iff a b c d f g =
@@ -26,13 +28,20 @@ or-no : (b : Bool) → b || false ≡ b
 or-no true = refl
 or-no false = refl
 
+or-yes : (b : Bool) → b || true ≡ true
+or-yes true = refl
+or-yes false = refl
+
 -- the sum, taken modulo 2 ^ 64: it is below the offset exactly where it wraps
+pub wrap-free : (a n r : ℕ) → a < 2 ^ 64 → n < 2 ^ 64 → r ≡ (a + n) % 2 ^ 64 → a ≤ r → r ≡ a + n
+wrap-free a n r fa fn e h = omega arith
+
 module _ (total a n r : ℕ) (ft : total < 2 ^ 64) (fa : a < 2 ^ 64) (fn : n < 2 ^ 64) (e : r ≡ (a + n) % 2 ^ 64) where
   pub wraps : r < a → false ≡ leb (a + n) total
   wraps h = sym (lt-leb (a + n) total (omega arith))
 
   pub no-wrap : a ≤ r → leb r total ≡ leb (a + n) total
-  no-wrap h = let q : r ≡ a + n = omega arith in ap (λ k. leb k total) q
+  no-wrap h = ap (λ k. leb k total) (wrap-free a n r fa fn e h)
 
 module _ (page end total a n : ℕ) where
   pub empty-in : n ≡ 0 → true ≡ inFile page end total (rangeOf a n)
@@ -97,3 +106,55 @@ module _ (o : Order) (s : List ℕ) (at : ℕ) where
 
       pub apart-not : all (apart (rangeOf a n)) (entries o s (k - 1) (at + 16)) ≡ false → false ≡ allApart (entries o s k at)
       apart-not e = sym (apart-first k l ∙ rw e)
+
+-- ---- ranges in order
+
+empty-apart : (r : Range) → eqb (r .size) 0 ≡ true → (rs : List Range) → all (apart r) rs ≡ true
+empty-apart r e [] = refl
+empty-apart r e (q ∷ rs) = rw (e, empty-apart r e rs)
+
+-- a range that ends at `last` or earlier is apart from ranges in order from there on
+before : (r : Range) (last : ℕ) → r .offset + r .size ≤ last → (rs : List Range) → inOrder last rs ≡ true → all (apart r) rs ≡ true
+before r last h [] e = refl
+before r last h (q ∷ rs) e = by (eqb (q .size) 0) refl e (λ l k f. before r l k rs f)
+  where
+    by : (t : Bool) → eqb (q .size) 0 ≡ t → cond t (inOrder last rs) (leb last (q .offset) && inOrder (q .offset + q .size) rs) ≡ true
+        → ((l : ℕ) → r .offset + r .size ≤ l → inOrder l rs ≡ true → all (apart r) rs ≡ true) → all (apart r) (q ∷ rs) ≡ true
+    by true z e more = rw (z, or-yes (eqb (r .size) 0), more last h e)
+    by false z e more =
+        let p = and-inv (leb last (q .offset)) (inOrder (q .offset + q .size) rs) e in
+        let l : last ≤ q .offset = leb-true last (q .offset) (p .0) in
+        let a : apart r q ≡ true = rw (z, le-leb (r .offset + r .size) (q .offset) (omega arith)) (or-yes (eqb (r .size) 0)) in
+        rw (a, more (q .offset + q .size) (omega arith) (p .1))
+
+pub order-apart : (last : ℕ) (rs : List Range) → inOrder last rs ≡ true → allApart rs ≡ true
+order-apart last [] e = refl
+order-apart last (r ∷ rs) e = by (eqb (r .size) 0) refl e (λ l f. order-apart l rs f)
+  where
+    by : (t : Bool) → eqb (r .size) 0 ≡ t → cond t (inOrder last rs) (leb last (r .offset) && inOrder (r .offset + r .size) rs) ≡ true
+        → ((l : ℕ) → inOrder l rs ≡ true → allApart rs ≡ true) → allApart (r ∷ rs) ≡ true
+    by true z e more = rw (empty-apart r z rs, more last e)
+    by false z e more =
+        let p = and-inv (leb last (r .offset)) (inOrder (r .offset + r .size) rs) e in
+        rw (before r (r .offset + r .size) (le-refl (r .offset + r .size)) rs (p .1), more (r .offset + r .size) (p .1))
+
+-- a range more
+module _ (last a n : ℕ) where
+  pub leads-empty : n ≡ 0 → Leads (At last) last (rangeOf a n)
+  leads-empty z rs e = rw z e
+
+  pub leads-on : (n ≡ 0 → ⊥) → last ≤ a → (r : ℕ) → r ≡ a + n → Leads (At r) last (rangeOf a n)
+  leads-on z h r q rs e = rw (ne-eqb n 0 z, le-leb last a h) (rw q at e)
+
+-- the entries left, k from `at` on
+module _ (o : Order) (s : List ℕ) (at : ℕ) where
+  pub order-end : (last k : ℕ) → k ≤ 0 → inOrder last (entries o s k at) ≡ true
+  order-end last zero l = refl
+  order-end last (suc k) l = absurd (omega arith)
+
+  pub order-turn : (a n : ℕ) → a ≡ wordAt o 8 s at → n ≡ wordAt o 8 s (at + 8) → (last end k : ℕ) → 0 < k → Leads (At end) last (rangeOf a n)
+      → inOrder end (entries o s (k - 1) (at + 16)) ≡ true → inOrder last (entries o s k at) ≡ true
+  order-turn a n ea en last end zero l h e = absurd (omega arith)
+  order-turn a n ea en last end (suc k) l h e =
+      let j : suc k - 1 ≡ k = omega arith in
+      rw (← ea, ← en) (h (entries o s k (at + 16)) (rw j at e))

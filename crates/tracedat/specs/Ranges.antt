@@ -1,9 +1,14 @@
 -- The tests of the CPU ranges, over what the code tells apart.
 -- Assumes nothing: these are definitions.
-use mathlib.Core.Bool.{Bool}
-use Prim.Native.Nat.{ℕ, _<_}
+use mathlib.Core.Path.{_≡_}
+use mathlib.Core.Bool.{Bool, true, cond, _&&_}
+use Prim.Native.Nat.{ℕ, _+_, _<_}
+use mathlib.Core.List.{List, [], _∷_}
+use lib.Dec.{leb, eqb}
 use Rattle.dat_format.specs.Header.{Range}
 use Rattle.dat_format.specs.Layout.{inFile, apart}
+use Rattle.tracedat.specs.declared.ranges.Later.{Later}
+use Rattle.tracedat.specs.declared.ranges.Later.the-variants.{At, Not}
 use Rattle.tracedat.specs.declared.ranges.Test.{Test}
 use Rattle.tracedat.specs.declared.ranges.Test.the-variants.{InFile, Apart}
 
@@ -18,3 +23,15 @@ testOf (Apart a n) = apart (rangeOf a n)
 abbrev pub testFits : Test → Type 0
 testFits (InFile page end total) = 0 < page
 testFits (Apart a n) = Unit {0}
+
+-- ---- ranges in order
+
+-- each range that holds something starts at `last` or later, and the next ones at its end or later
+abbrev pub inOrder : ℕ → List Range → Bool
+inOrder last [] = true
+inOrder last (r ∷ rs) = cond (eqb (r .size) 0) (inOrder last rs) (leb last (r .offset) && inOrder (r .offset + r .size) rs)
+
+-- what may follow r where the order goes on at the answered end
+abbrev pub Leads : Later → ℕ → Range → Type 0
+Leads (At e) last r = (rs : List Range) → inOrder e rs ≡ true → inOrder last (r ∷ rs) ≡ true
+Leads Not last r = Unit {0}

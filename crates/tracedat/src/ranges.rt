@@ -1,11 +1,12 @@
 // What a trace.dat file asks of its CPU ranges.
 ghost use mathlib.Core.Path.{_≡_};
+ghost use mathlib.Core.Bool.{true};
 ghost use Prim.Native.Nat.{_+_, _*_, _<_, _≤_};
 ghost use lib.Dec.{leb};
 ghost use lib.ListN.{length};
 ghost use Rattle.dat_format.specs.Layout.{aligned, inFile, apart, all, allApart};
 ghost use Rattle.dat_format.specs.Entries.{entries};
-ghost use Rattle.tracedat.specs.Ranges.{rangeOf, testOf, testFits};
+ghost use Rattle.tracedat.specs.Ranges.{rangeOf, testOf, testFits, Leads};
 use fields::Order;
 
 // Whether an offset is a multiple of the page size.
@@ -98,11 +99,62 @@ pub(crate) fn all_pass(s: &[u8], order: Order, test: Test, n: u32, from: usize) 
     true
 }
 
+// Where ranges in order end, or that they are not in order.
+pub(crate) enum Later {
+    At(u64),
+    Not,
+}
+
+// The end after one range more, which must start at `last` or later; a range of size 0 moves nothing.
+fn end_after(last: u64, offset: u64, size: u64) -> Later
+    ensures { λ r. ⌜ Leads r last (rangeOf offset size) ⌝ }
+{
+    if size == 0 {
+        return Later::At(last);
+    }
+    let next = std::num::wrapping_add_u64(offset, size);
+    if offset < last {
+        return Later::Not;
+    }
+    if next < offset {
+        return Later::Not;
+    }
+    Later::At(next)
+}
+
+// Whether n entries from `from` on are in order. Most files hold them so, and then no two overlap.
+fn in_order(s: &[u8], order: Order, n: u32, from: usize) -> bool
+    requires { ⌜ from ≤ length (now s) ⌝ }
+    ensures { λ r. ⌜ (r ≡ true → allApart (entries order (now (s .entry)) n from) ≡ true) ⌝ }
+{
+    let mut at = from;
+    let mut left = n;
+    let mut last: u64 = 0;
+    while 0 < left {
+        let offset = fields::u64_at(s, order, at);
+        let size = fields::u64_at(s, order, at + 8);
+        match end_after(last, offset, size) {
+            Later::Not => {
+                return false;
+            }
+            Later::At(end) => {
+                last = end;
+            }
+        }
+        at += 16;
+        left -= 1;
+    }
+    true
+}
+
 // Whether no two of n entries from `from` on overlap.
 pub(crate) fn all_apart(s: &[u8], order: Order, n: u32, from: usize) -> bool
     requires { ⌜ from + 16 * n ≤ length (now s) ⌝ }
     ensures { λ r. ⌜ r ≡ allApart (entries order (now (s .entry)) n from) ⌝ }
 {
+    if in_order(s, order, n, from) {
+        return true;
+    }
     let mut at = from;
     let mut left = n;
     while 0 < left {

@@ -18,8 +18,11 @@ Inv-loop s order n from at₀ left₀ at left = (at + 16 * left ≤ length s) ×
 abbrev μ-loop : tie.MeasureT-loop
 μ-loop s order n from at₀ left₀ at left = left
 
+returns : tie.Need-returns Inv-loop μ-loop
+returns c = sym (c .before .in-order .ensures (c .if1 .taken))
+
 loop-holds : tie.Need-loop-holds Inv-loop μ-loop
-loop-holds c = (c .before .pre, refl)
+loop-holds c = (c .before .before .before .pre, refl)
 
 add-u64-at : tie.Need-add-u64-at Inv-loop μ-loop
 add-u64-at c = omega arith
@@ -33,28 +36,28 @@ sub-left c = omega arith
 all-pass-requires : tie.Need-all-pass-requires Inv-loop μ-loop
 all-pass-requires c κs = (tt, omega arith)
 
-returns : tie.Need-returns Inv-loop μ-loop
-returns c =
-    let a = c .before .before .before .before .before .before .before .args in
+returns-2 : tie.Need-returns-2 Inv-loop μ-loop
+returns-2 c =
+    let a = c .before .before .before .before .before .before .before .before .before .args in
     let l = c .before .before .before .before .before .loop in
-    apart-not (a .order) (a .s .now) (l .at) _ _ (c .before .before .before .u64-at .ensures) (c .before .before .u64-at2 .ensures) (l .left) (omega arith) (sym (c .before .all-pass .ensures) ∙ not-true _ (c .if1 .taken)) ∙ l .inv .1
+    apart-not (a .order) (a .s .now) (l .at) _ _ (c .before .before .before .u64-at .ensures) (c .before .before .u64-at2 .ensures) (l .left) (omega arith) (sym (c .before .all-pass .ensures) ∙ not-true _ (c .if2 .taken)) ∙ l .inv .1
 
 loop-less : tie.Need-loop-less Inv-loop μ-loop
 loop-less c = omega arith
 
 loop-again : tie.Need-loop-again Inv-loop μ-loop
 loop-again c =
-    let a = c .before .before .before .before .before .before .before .args in
+    let a = c .before .before .before .before .before .before .before .before .before .args in
     let l = c .before .before .before .before .before .loop in
-    (omega arith, apart-more (a .order) (a .s .now) (l .at) _ _ (c .before .before .before .u64-at .ensures) (c .before .before .u64-at2 .ensures) (l .left) (omega arith) (sym (c .before .all-pass .ensures) ∙ not-false _ (c .if1 .left)) ∙ l .inv .1)
+    (omega arith, apart-more (a .order) (a .s .now) (l .at) _ _ (c .before .before .before .u64-at .ensures) (c .before .before .u64-at2 .ensures) (l .left) (omega arith) (sym (c .before .all-pass .ensures) ∙ not-false _ (c .if2 .left)) ∙ l .inv .1)
 
-returns-2 : tie.Need-returns-2 Inv-loop μ-loop
-returns-2 c =
-    let a = c .before .before .before .args in
+returns-3 : tie.Need-returns-3 Inv-loop μ-loop
+returns-3 c =
+    let a = c .before .before .before .before .before .args in
     let l = c .before .loop in
     apart-end (a .order) (a .s .now) (l .at) (l .left) (omega arith) ∙ l .inv .1
 
 pub all-apart-spec : {M : Type 1} → statement M
 all-apart-spec =
     tie.close
-    (tie.spec Inv-loop μ-loop loop-holds (λ c κs. search needs) add-u64-at (λ c κs. search needs) add-at sub-left all-pass-requires returns loop-less loop-again returns-2)
+    (tie.spec Inv-loop μ-loop (λ c κs. search needs) returns loop-holds (λ c κs. search needs) add-u64-at (λ c κs. search needs) add-at sub-left all-pass-requires returns-2 loop-less loop-again returns-3)

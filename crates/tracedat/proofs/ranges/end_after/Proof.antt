@@ -1,0 +1,20 @@
+-- `tracedat::ranges::end_after` meets its contract. Assumes nothing.
+use Rattle.tracedat.proofs.RangeLaws.{wrap-free, leads-empty, leads-on}
+use borrow.Author.Needs.{needs}
+use native.Mathlib.Omega.{arith}
+use Rattle.tracedat.proofs.ranges.end_after.Statement.{statement}
+use Rattle.tracedat.proofs.ranges.end_after.Tie as tie
+
+returns : tie.Need-returns
+returns c = let a = c .before .args in leads-empty (a .last) (a .offset) (a .size) (c .if1 .taken)
+
+returns-4 : tie.Need-returns-4
+returns-4 c =
+    let a = c .before .before .before .before .args in
+    let e = c .before .before .wrapping-add-u64 in
+    leads-on (a .last) (a .offset) (a .size) (c .before .before .before .if1 .left) (omega arith) (e .result) (wrap-free (a .offset) (a .size) (e .result) (omega arith) (omega arith) (e .ensures) (omega arith))
+
+pub end-after-spec : {M : Type 1} → statement M
+end-after-spec =
+    tie.close
+    (tie.spec returns (λ c κs. search needs) (λ c. search needs) (λ c. search needs) returns-4)
