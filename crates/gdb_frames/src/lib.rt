@@ -1,5 +1,6 @@
 // Questions about the lines and frames of a GDB trace. Each takes any file and any arguments, and reads the whole file first.
 ghost use mathlib.Core.Path.{_≡_};
+ghost use Rattle.fields.specs.Answer.{accepted};
 ghost use Rattle.gdb_frames.specs.Places.{partNamed};
 ghost use Rattle.gdb_frames.specs.Questions.{asked, frameCount, frameData, lineAt, linePlace, countAnswer, placeAnswer, lineAnswer, Handed};
 ghost use Rattle.gdb_frames.specs.Nth.{nthHead, nthLine};
@@ -108,13 +109,10 @@ pub fn frame_place(settings: Settings, file: &[u8], n: usize) -> PlaceAnswer
     }
 }
 
-// The part of the file that an answer names; empty where it refuses, and where it names none of the file.
-pub fn part_of(file: &[u8], answer: PlaceAnswer) -> &[u8]
-    ensures { λ r. ⌜ now r ≡ partNamed (now (file .entry)) (placeAnswer answer) ⌝ }
+// The bytes at a place; none where they are not all in the file.
+fn part_at(file: &[u8], place: usize, length: usize) -> &[u8]
+    ensures { λ r. ⌜ now r ≡ partNamed (now (file .entry)) (accepted (place, length)) ⌝ }
 {
-    let PlaceAnswer::At { place, length } = answer else {
-        return &file[..0];
-    };
     if file.len() < place {
         return &file[..0];
     }
@@ -123,6 +121,16 @@ pub fn part_of(file: &[u8], answer: PlaceAnswer) -> &[u8]
     }
     let end = place + length;
     &file[place..end]
+}
+
+// The part of the file that an answer names; empty where it refuses, and where it names none of the file.
+pub fn part_of(file: &[u8], answer: PlaceAnswer) -> &[u8]
+    ensures { λ r. ⌜ now r ≡ partNamed (now (file .entry)) (placeAnswer answer) ⌝ }
+{
+    match answer {
+        PlaceAnswer::Refused(_) => &file[..0],
+        PlaceAnswer::At { place, length } => part_at(file, place, length),
+    }
 }
 
 pub fn frame_data(settings: Settings, file: &[u8], n: usize) -> &[u8]
