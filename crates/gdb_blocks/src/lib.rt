@@ -6,7 +6,7 @@ ghost use lib.ListN.{drop};
 ghost use Rattle.gdb_format.specs.Opening.{sizeIn};
 ghost use Rattle.gdb_read.specs.Steps.{blockMeaning, kindMeaning, blockIn, headMeaning};
 ghost use Rattle.gdb_frames.specs.Questions.{asked, placeAnswer, Handed};
-ghost use Rattle.gdb_blocks.specs.Search.{nthBlock, upTo, blockAt, blockAnswer, leastSize, hitSaid, registerHit, coveredBy, memoryHit, wantedHit, valueSaid, valueHit, Filled, partsFound, valuesFound, wantedAt, registersAt, memoryAt, variableAt, valueAnswer};
+ghost use Rattle.gdb_blocks.specs.Search.{nthBlock, upTo, blockAt, blockAnswer, leastSize, hitSaid, registerHit, offset, coveredBy, memoryHit, wantedHit, valueSaid, valueHit, Filled, partsFound, valuesFound, wantedAt, registersAt, memoryAt, variableAt, valueAnswer};
 use gdb_format::Format;
 use gdb_format::RegisterSize;
 use gdb_format::Settings;
@@ -119,12 +119,19 @@ fn register_hit(block: BlockRecord, next: usize) -> Hit
     }
 }
 
-// The bytes from an address to the end of the memory block at `place`, where it covers the address. A block at the top runs on at address 0.
+// How far an address lies into a block that starts at `start`. A block at the top runs on at address 0.
+fn offset_in(address: u64, start: u64) -> u64
+    ensures { λ r. ⌜ r ≡ offset address start ⌝ }
+{
+    std::num::wrapping_sub_u64(address, start)
+}
+
+// The bytes from an address to the end of the memory block at `place`, where it covers the address.
 fn covered(span: MemorySpan, place: usize, address: u64) -> Hit
     requires { ⌜ place + 11 + span .length < 2 ^ 64 ⌝ }
     ensures { λ r. ⌜ hitSaid r ≡ coveredBy address (span .address) (span .length) place ⌝ }
 {
-    let offset = std::num::wrapping_sub_u64(address, span.address);
+    let offset = offset_in(address, span.address);
     let length = span.length;
     if offset < length as u64 {
         let skipped = offset as usize;
