@@ -129,7 +129,8 @@ fn write_cut(
     requires { ⌜ (start ≤ length (now file)) × Heads format (drop start (now file)) × (selection .count ≤ 8) × (start + length (kept format (meaning selection) (drop start (now file))) ≤ length (now out)) ⌝ }
     ensures { λ r. ⌜ (r ≡ start + length (kept format (meaning selection) (drop start (now (file .entry))))) × (now (out .exit) ≡ (take start (now (file .entry)) ++ kept format (meaning selection) (drop start (now (file .entry)))) ++ drop (start + length (kept format (meaning selection) (drop start (now (file .entry))))) (now (out .entry))) ⌝ }
 {
-    let mut len = bytes::copy(&file[..start], out);
+    bytes::copy(&file[..start], out);
+    let mut len = start;
     let mut at = start;
     loop {
         match gdb_read::head_at(format, file, at) {
@@ -141,7 +142,8 @@ fn write_cut(
             }
             FrameStep::Frame { head, next } => {
                 if is_selected(selection, head.tracepoint) {
-                    len += bytes::copy(&file[at..next], &mut out[len..]);
+                    bytes::copy(&file[at..next], &mut out[len..]);
+                    len += next - at;
                 }
                 at = next;
             }

@@ -29,6 +29,14 @@ abbrev μ-loop : tie.MeasureT-loop
 abbrev Begun : tie.At-loop Inv-loop μ-loop → tie.Start Inv-loop μ-loop
 Begun h = h .before .before .before .before .before .before .before .before
 
+loop-holds : tie.Need-loop-holds Inv-loop μ-loop
+loop-holds c =
+    let q = c .before .before .before .before .before .before .before in
+    let k = c .before .before .copy in
+    let w : List ℕ = take (q .args .start) (q .args .file .now) in
+    let n : length w ≡ q .args .start = length-take-le (q .args .start) (q .args .file .now) (q .pre .0) in
+    (q .pre .0, q .pre .1, w, n, first-out w (q .args .out .now) (k .last .1 .0) (q .args .start) (sym n) (k .ensures .1), refl)
+
 -- the frame that was met
 met : (c : tie.After-head Inv-loop μ-loop)
     → Passed (Begun (c .before .before .before) .args .format) (Begun (c .before .before .before) .args .file .now) (c .before .before .before .loop .at) (headMeaning (c .head .given .0 .0)) (c .head .given .0 .1 .0)
@@ -61,13 +69,6 @@ slice-aggregate-copy c = sym (length-take-le (c .before .before .before .args .s
 
 copy-requires : tie.Need-copy-requires Inv-loop μ-loop
 copy-requires c κs = omega (arith, length-take-le (c .before .before .before .before .args .start) (c .before .before .before .before .args .file .now) (c .before .before .before .before .pre .0), c .before .before .before .before .pre .3)
-
-loop-holds : tie.Need-loop-holds Inv-loop μ-loop
-loop-holds c =
-    let q = c .before .before .before .before .before .before .before in
-    let k = c .before .before .copy in
-    let w : List ℕ = take (q .args .start) (q .args .file .now) in
-    (q .pre .0, q .pre .1, w, sym (k .ensures .0), first-out w (q .args .out .now) (k .last .1 .0) (k .result) (k .ensures .0) (k .ensures .1), refl)
 
 same-length : tie.Need-same-length Inv-loop μ-loop
 same-length c = (room (c .before .before .before)) .1
@@ -125,13 +126,16 @@ copy-requires-2 c κs =
     let z = length-yes p (meaning (q .args .selection)) (sym (c .before .before .before .is-selected .ensures) ∙ c .before .before .if1 .taken) in
     simp (length-take, length-drop) (omega (arith, room h, q .pre .3, z, p .past, p .inside))
 
+sub-len : tie.Need-sub-len Inv-loop μ-loop
+sub-len c = omega (arith, (met (c .before .before .before .before .before .before .before .before)) .past)
+
 add-len : tie.Need-add-len Inv-loop μ-loop
 add-len c =
     let h = c .before .before .before .before .before .before .before .before .before .before .before in
     let q = Begun h in
     let p = met (c .before .before .before .before .before .before .before .before) in
     let z = length-yes p (meaning (q .args .selection)) (sym (c .before .before .before .before .before .before .is-selected .ensures) ∙ c .before .before .before .before .before .if1 .taken) in
-    omega (arith, room h, q .pre .3, z, part-long p (meaning (q .args .selection)), c .before .before .copy2 .ensures .0)
+    omega (arith, room h, q .pre .3, z)
 
 loop-less : tie.Need-loop-less Inv-loop μ-loop
 loop-less c = let p = met (c .before .before .before .before .before .before .before .before) in omega (arith, p .past, p .inside)
@@ -143,14 +147,16 @@ loop-again c =
     let p = met (c .before .before .before .before .before .before .before .before) in
     let y = sym (c .before .before .before .before .before .before .is-selected .ensures) ∙ c .before .before .before .before .before .if1 .taken in
     let l = h .loop in
-    let f : List ℕ = take (c .before .before .before .before .before .before .before .before .head .given .0 .1 .0 - l .at) (drop (l .at) (a .file .now)) in
+    let n = c .before .before .before .before .before .before .before .before .head .given .0 .1 .0 - l .at in
+    let f : List ℕ = take n (drop (l .at) (a .file .now)) in
+    let long : length f ≡ n = part-long p (meaning (a .selection)) in
     let k = h .before .before .before .copy in
     let m = c .before .before .copy2 in (
       p .inside,
       p .rest,
       l .inv .2 ++ f,
-      more-long (l .inv .2) (k .last .1 .0) (l .out) (l .len) (l .inv .3) (l .inv .4) f (m .last .1 .0) (m .result) (m .ensures .0) (m .ensures .1),
-      more-out (l .inv .2) (k .last .1 .0) (l .out) (l .len) (l .inv .3) (l .inv .4) f (m .last .1 .0) (m .result) (m .ensures .0) (m .ensures .1),
+      more-long (l .inv .2) (k .last .1 .0) (l .out) (l .len) (l .inv .3) (l .inv .4) f (m .last .1 .0) n (sym long) (m .ensures .1),
+      more-out (l .inv .2) (k .last .1 .0) (l .out) (l .len) (l .inv .3) (l .inv .4) f (m .last .1 .0) n (sym long) (m .ensures .1),
       append-assoc (l .inv .2) f _ ∙ ap (λ x. l .inv .2 ++ x) (sym (kept-yes p (meaning (a .selection)) y)) ∙ l .inv .5,
     )
 
@@ -168,4 +174,4 @@ loop-again-2 c =
 pub write-cut-spec : {M : Type 1} → statement M
 write-cut-spec =
     tie.close
-    (tie.spec Inv-loop μ-loop slice-aggregate-copy copy-requires loop-holds (λ c κs. search needs) (λ c. search needs) same-length returns (λ c. search needs) same-length-2 returns-2 (λ c. search needs) is-selected-requires sub-copy part-copy-start part-copy-end sub-copy-2 part-copy-start-2 (λ c. search needs) copy-requires-2 add-len loop-less loop-again loop-less-2 loop-again-2)
+    (tie.spec Inv-loop μ-loop slice-aggregate-copy copy-requires loop-holds (λ c κs. search needs) (λ c. search needs) same-length returns (λ c. search needs) same-length-2 returns-2 (λ c. search needs) is-selected-requires sub-copy part-copy-start part-copy-end sub-copy-2 part-copy-start-2 (λ c. search needs) copy-requires-2 sub-len add-len loop-less loop-again loop-less-2 loop-again-2)
