@@ -67,9 +67,14 @@ fn put_line(out: &mut [u8], at: usize, head: FrameHead) -> usize
     requires { ⌜ at + length (lineOf (headMeaning head)) ≤ length (now out) ⌝ }
     ensures { λ r. ⌜ Puts (now (out .entry)) at (lineOf (headMeaning head)) r (now (out .exit)) ⌝ }
 {
-    let a = put_ended(out, at, head.tracepoint as usize, b' ');
-    let b = put_ended(out, a, head.place, b' ');
-    put_ended(out, b, head.size, b'\n')
+    let FrameHead {
+        tracepoint,
+        place,
+        size,
+    } = head;
+    let a = put_ended(out, at, tracepoint as usize, b' ');
+    let b = put_ended(out, a, place, b' ');
+    put_ended(out, b, size, b'\n')
 }
 
 // The lines of `frames` frames, the first of which starts at `start`.
