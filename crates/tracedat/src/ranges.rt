@@ -106,17 +106,17 @@ pub(crate) enum Later {
 }
 
 // The end after one range more, which must start at `last` or later; a range of size 0 moves nothing.
-fn end_after(last: u64, offset: u64, size: u64) -> Later
-    ensures { λ r. ⌜ Leads r last (rangeOf offset size) ⌝ }
+fn end_after(last: u64, start: u64, length: u64) -> Later
+    ensures { λ r. ⌜ Leads r last (rangeOf start length) ⌝ }
 {
-    if size == 0 {
+    if length == 0 {
         return Later::At(last);
     }
-    let next = std::num::wrapping_add_u64(offset, size);
-    if offset < last {
+    let next = std::num::wrapping_add_u64(start, length);
+    if start < last {
         return Later::Not;
     }
-    if next < offset {
+    if next < start {
         return Later::Not;
     }
     Later::At(next)

@@ -6,13 +6,13 @@ use Rattle.tracedat.proofs.ranges.end_after.Statement.{statement}
 use Rattle.tracedat.proofs.ranges.end_after.Tie as tie
 
 returns : tie.Need-returns
-returns c = let a = c .before .args in leads-empty (a .last) (a .offset) (a .size) (c .if1 .taken)
+returns c = let a = c .before .args in leads-empty (a .last) (a .start) (a .length) (c .if1 .taken)
 
 returns-4 : tie.Need-returns-4
 returns-4 c =
     let a = c .before .before .before .before .args in
     let e = c .before .before .wrapping-add-u64 in
-    leads-on (a .last) (a .offset) (a .size) (c .before .before .before .if1 .left) (omega arith) (e .result) (wrap-free (a .offset) (a .size) (e .result) (omega arith) (omega arith) (e .ensures) (omega arith))
+    leads-on (a .last) (a .start) (a .length) (c .before .before .before .if1 .left) (omega arith) (e .result) (wrap-free (a .start) (a .length) (e .result) (omega arith) (omega arith) (e .ensures) (omega arith))
 
 pub end-after-spec : {M : Type 1} → statement M
 end-after-spec =
