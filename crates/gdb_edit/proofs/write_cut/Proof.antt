@@ -48,6 +48,26 @@ met c =
     passed (a .format) (a .file .now) (l .at) (bytes-all (a .file .now) (λ i. omega (arith, h .before .before .before .before .before .before .before .shared-slice-known .given i))) (l .inv .1) (headMeaning (g .0 .0)) (g .0 .1 .0)
     (ap frameMeaning (sym (g .1)) ∙ c .before .before .head-at .ensures)
 
+loop-again : tie.Need-loop-again Inv-loop μ-loop
+loop-again c =
+    let h = c .before .before .before .before .before .before .before .before .before .before .before in
+    let a = (Begun h) .args in
+    let p = met (c .before .before .before .before .before .before .before .before) in
+    let y = sym (c .before .before .before .before .before .before .is-selected .ensures) ∙ c .before .before .before .before .before .if1 .taken in
+    let l = h .loop in
+    let n = c .before .before .before .before .before .before .before .before .head .given .0 .1 .0 - l .at in
+    let f : List ℕ = take n (drop (l .at) (a .file .now)) in
+    let long : length f ≡ n = part-long p (meaning (a .selection)) in
+    let k = h .before .before .before .copy in
+    let m = c .before .before .copy2 in (
+      p .inside,
+      p .rest,
+      l .inv .2 ++ f,
+      more-long (l .inv .2) (k .last .1 .0) (l .out) (l .len) (l .inv .3) (l .inv .4) f (m .last .1 .0) n (sym long) (m .ensures .1),
+      more-out (l .inv .2) (k .last .1 .0) (l .out) (l .len) (l .inv .3) (l .inv .4) f (m .last .1 .0) n (sym long) (m .ensures .1),
+      append-assoc (l .inv .2) f _ ∙ ap (λ x. l .inv .2 ++ x) (sym (kept-yes p (meaning (a .selection)) y)) ∙ l .inv .5,
+    )
+
 -- what is written and what is to come is the whole, and the output is as long as it was
 room : (h : tie.At-loop Inv-loop μ-loop)
     → (h .loop .len + length (kept (Begun h .args .format) (meaning (Begun h .args .selection)) (drop (h .loop .at) (Begun h .args .file .now)))
@@ -139,26 +159,6 @@ add-len c =
 
 loop-less : tie.Need-loop-less Inv-loop μ-loop
 loop-less c = let p = met (c .before .before .before .before .before .before .before .before) in omega (arith, p .past, p .inside)
-
-loop-again : tie.Need-loop-again Inv-loop μ-loop
-loop-again c =
-    let h = c .before .before .before .before .before .before .before .before .before .before .before in
-    let a = (Begun h) .args in
-    let p = met (c .before .before .before .before .before .before .before .before) in
-    let y = sym (c .before .before .before .before .before .before .is-selected .ensures) ∙ c .before .before .before .before .before .if1 .taken in
-    let l = h .loop in
-    let n = c .before .before .before .before .before .before .before .before .head .given .0 .1 .0 - l .at in
-    let f : List ℕ = take n (drop (l .at) (a .file .now)) in
-    let long : length f ≡ n = part-long p (meaning (a .selection)) in
-    let k = h .before .before .before .copy in
-    let m = c .before .before .copy2 in (
-      p .inside,
-      p .rest,
-      l .inv .2 ++ f,
-      more-long (l .inv .2) (k .last .1 .0) (l .out) (l .len) (l .inv .3) (l .inv .4) f (m .last .1 .0) n (sym long) (m .ensures .1),
-      more-out (l .inv .2) (k .last .1 .0) (l .out) (l .len) (l .inv .3) (l .inv .4) f (m .last .1 .0) n (sym long) (m .ensures .1),
-      append-assoc (l .inv .2) f _ ∙ ap (λ x. l .inv .2 ++ x) (sym (kept-yes p (meaning (a .selection)) y)) ∙ l .inv .5,
-    )
 
 loop-less-2 : tie.Need-loop-less-2 Inv-loop μ-loop
 loop-less-2 c = let p = met (c .before .before .before) in omega (arith, p .past, p .inside)
