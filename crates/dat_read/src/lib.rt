@@ -33,15 +33,9 @@ pub fn walk(s: &[u8]) -> Walked
             let order = flags.order;
             match sections::sections_at(s, order, a) {
                 SectionsStep::Refused(n) => Walked::Refused(n),
-                SectionsStep::Found {
-                    parts: sections,
-                    next: b,
-                } => match texts::texts_at(s, order, b) {
+                SectionsStep::Found { sections, next: b } => match texts::texts_at(s, order, b) {
                     TextsStep::Refused(n) => Walked::Refused(n),
-                    TextsStep::Found {
-                        parts: texts,
-                        next: c,
-                    } => {
+                    TextsStep::Found { texts, next: c } => {
                         let cpus = texts.cpus;
                         match tail::tail_at(s, order, cpus, c) {
                             TailStep::Refused(n) => Walked::Refused(n),

@@ -106,7 +106,7 @@ fn systems_at(s: &[u8], order: Order, at: usize) -> Step
 }
 
 pub(crate) enum SectionsStep {
-    Found { parts: SectionParts, next: usize },
+    Found { sections: SectionParts, next: usize },
     Refused(u8),
 }
 
@@ -124,7 +124,7 @@ pub(crate) fn sections_at(s: &[u8], order: Order, at: usize) -> SectionsStep
                 Step::Next(c) => match systems_at(s, order, c) {
                     Step::Refused(n) => SectionsStep::Refused(n),
                     Step::Next(d) => SectionsStep::Found {
-                        parts: SectionParts {
+                        sections: SectionParts {
                             header_page: summary::span(at, 20, a),
                             header_event: summary::span(a, 21, b),
                             formats: summary::span(b, 4, c),

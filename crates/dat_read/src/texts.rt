@@ -16,7 +16,7 @@ use refusals::BAD_RANGE;
 use refusals::FIELD_PAST_FILE;
 
 pub(crate) enum TextsStep {
-    Found { parts: TextParts, next: usize },
+    Found { texts: TextParts, next: usize },
     Refused(u8),
 }
 
@@ -44,7 +44,7 @@ pub(crate) fn texts_at(s: &[u8], order: Order, at: usize) -> TextsStep
                         return TextsStep::Refused(BAD_RANGE);
                     }
                     TextsStep::Found {
-                        parts: TextParts {
+                        texts: TextParts {
                             kallsyms: summary::span(at, 4, a),
                             printk: summary::span(a, 4, b),
                             processes: summary::span(b, 8, c),
