@@ -6,14 +6,16 @@ use mathlib.Core.Option.{Option}
 use Prim.Native.Nat.{ℕ, _+_, _≤_}
 use native.Mathlib.Omega.{arith}
 use mathlib.Core.List.{List, [], _∷_, _++_, map}
-use lib.ListN.{length, take, drop, length-append}
+use lib.ListN.{length, take, drop, length-append, length-drop}
+use lib.Dec.{leb}
 use lib.Seq.{take-at, length-take-le}
+use borrow.Author.Tests.{le-leb}
 use Rattle.refusals.specs.Refusal.{badArgument}
 use Rattle.fields.specs.Lists.{flat, Each}
-use Rattle.fields.specs.Number.{Bytes}
+use Rattle.fields.specs.Number.{Bytes, bytes-drop}
 use Rattle.fields.specs.Answer.{accepted, refused, refused-inv}
 use Rattle.fields.specs.Reader.{toEnd}
-use Rattle.fields.specs.Exact.{back-toEnd}
+use Rattle.fields.specs.Exact.{back-toEnd, forth-toEnd}
 use Rattle.fields.specs.Takes.{shorter}
 use Rattle.gdb_format.specs.Trace.{Frame, Trace, opening, putData, putFrame, dataOf, encode}
 use Rattle.gdb_format.specs.Lines.{registerSize}
@@ -104,3 +106,25 @@ module _ (s : Settings) (b : List ℕ) (h : Bytes b) (m : Summary) (e : accepted
   pub written-long : (c : lent.Selection) → length (written c) ≡ m .start + length (kept (m .format) (meaning c) (drop (m .start) b))
   written-long c =
       omega (arith, length-append (take (m .start) b) (kept (m .format) (meaning c) (drop (m .start) b)), length-take-le (m .start) b start-there)
+
+-- ---- the room
+
+sifted-less : {A : Type 0} (put : A → List ℕ) (p : A → Bool) (xs : List A) → length (flat put (sift p xs)) ≤ length (flat put xs)
+sifted-less put p [] = omega arith
+sifted-less put p (x ∷ xs) = by (p x) (sifted-less put p xs)
+  where
+    by : (t : Bool) → length (flat put (sift p xs)) ≤ length (flat put xs) → length (flat put (cond t (x ∷ sift p xs) (sift p xs))) ≤ length (put x ++ flat put xs)
+    by true h = omega (arith, h, length-append (put x) (flat put (sift p xs)), length-append (put x) (flat put xs))
+    by false h = omega (arith, h, length-append (put x) (flat put xs))
+
+-- what is kept is no longer than what it is kept of
+kept-less : (f : Format) (c : Selection) (b : List ℕ) → Bytes b → Heads f b → length (kept f c b) ≤ length b
+unfolding kept
+kept-less f c b hb h =
+    let e = (forth-toEnd (exact-head f) (shorter 1 (frameHead f) (omega arith) (takes-head f)) b (h .0) hb (h .1)) .1 in
+    let k : length (keptOf f c (toEnd (frameHead f) b)) ≡ length (flat (putData f) (sift (λ g. selects c (g .0)) (h .0))) = ap (λ x. length (keptOf f c x)) (h .1) in
+    omega (arith, k, sifted-less (putData f) (λ g. selects c (g .0)) (h .0), ap length e)
+
+pub room-for-file : (f : Format) (c : Selection) (b : List ℕ) (start room : ℕ) → Bytes b → start ≤ length b → Heads f (drop start b) → length b ≤ room
+    → true ≡ leb (start + length (kept f c (drop start b))) room
+room-for-file f c b start room hb s h l = sym (le-leb (start + length (kept f c (drop start b))) room (omega (arith, kept-less f c (drop start b) (bytes-drop start b hb) h, length-drop start b)))

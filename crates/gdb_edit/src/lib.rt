@@ -2,6 +2,7 @@
 ghost use mathlib.Core.Path.{_≡_};
 ghost use mathlib.Core.List.{_++_};
 ghost use Prim.Native.Nat.{_+_, _≤_};
+ghost use lib.Dec.{leb};
 ghost use lib.ListN.{length, take, drop};
 ghost use Rattle.gdb_edit.specs.Selection.{inSome, selects, meaning, valid, against};
 ghost use Rattle.gdb_edit.specs.Cut.{cutOf, joinOf};
@@ -118,6 +119,17 @@ fn cut_length(format: Format, file: &[u8], selection: Selection, start: usize) -
     }
 }
 
+// Whether the cut fits into `room` bytes. It is no longer than the file, so that where the file fits the frames need no walk.
+fn has_room(format: Format, file: &[u8], selection: Selection, start: usize, room: usize) -> bool
+    requires { ⌜ (start ≤ length (now file)) × Heads format (drop start (now file)) × (selection .count ≤ 8) ⌝ }
+    ensures { λ r. ⌜ r ≡ leb (start + length (kept format (meaning selection) (drop start (now (file .entry))))) room ⌝ }
+{
+    if file.len() <= room {
+        return true;
+    }
+    cut_length(format, file, selection, start) <= room
+}
+
 // Writes the opening and each kept frame; the caller has seen that there is room.
 fn write_cut(
     format: Format,
@@ -163,8 +175,7 @@ pub fn cut(settings: Settings, file: &[u8], selection: Selection, out: &mut [u8]
         Reading::Accepted(o) => {
             let format = o.format;
             let start = o.start;
-            let n = cut_length(format, file, selection, start);
-            if out.len() < n {
+            if !has_room(format, file, selection, start, out.len()) {
                 return EditAnswer::Refused(NO_ROOM);
             }
             EditAnswer::Written(write_cut(format, file, selection, start, out))

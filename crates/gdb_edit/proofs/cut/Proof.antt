@@ -3,9 +3,9 @@
 use mathlib.Core.Path.{_≡_, sym, ap, _∙_}
 use mathlib.Core.Bool.{true}
 use mathlib.Core.List.{_++_}
-use lib.ListN.{drop}
+use lib.ListN.{length, drop}
 use lib.Dec.{leb}
-use borrow.Author.Tests.{not-true, not-false, leb-true}
+use borrow.Author.Tests.{not-true, not-false, leb-true, leb-false}
 use Rattle.refusals.specs.Refusal.{badArgument}
 use Rattle.fields.specs.Number.{Bytes, bytes-all}
 use Rattle.fields.specs.Word.{and-inv}
@@ -14,9 +14,10 @@ use Rattle.gdb_format.specs.Decode.{read}
 use Rattle.gdb_read.specs.Steps.{Summary, readingMeaning, summarySaid, readSeen}
 use Rattle.gdb_edit.specs.Selection.{valid, inOrder, meaning}
 use Rattle.gdb_edit.specs.Cut.{cutOf}
+use Rattle.gdb_edit.specs.Kept.{kept}
 use Rattle.gdb_edit.specs.Output.{ends-written, ends-full, ends-refused}
 use Rattle.gdb_edit.proofs.Cuts.{cut-invalid, cut-refused, heads-there, start-there, written, cut-gives, written-long}
-use Prim.Native.Nat.{_≤_}
+use Prim.Native.Nat.{ℕ, _+_, _≤_}
 use borrow.Author.Needs.{needs}
 use native.Mathlib.Omega.{arith}
 use Rattle.gdb_edit.proofs.cut.Statement.{statement}
@@ -41,13 +42,17 @@ is-good h = sym (h .before .before .before .before .is-valid .ensures) ∙ not-f
 few : (h : tie.After-o) → Begun h .args .selection .count ≤ 8
 few h = let a = (Begun h) .args in leb-true (a .selection .count) 8 ((and-inv (leb (a .selection .count) 8) (inOrder (meaning (a .selection) .ranges)) (is-good h)) .0)
 
+-- how long the cut is
+abbrev needed : tie.After-o → ℕ
+needed h = said h .start + length (kept (said h .format) (meaning (Begun h .args .selection)) (drop (said h .start) (Begun h .args .file .now)))
+
 returns : tie.Need-returns
 returns c =
     let a = c .before .before .before .before .args in
     ends-refused (cutOf (a .settings) (a .selection) (a .file .now)) (a .out .now) badArgument (cut-invalid (a .settings) (a .selection) (a .file .now) (sym (c .before .is-valid .ensures) ∙ not-true _ (c .if1 .taken)))
 
-cut-length-requires : tie.Need-cut-length-requires
-cut-length-requires c κs =
+has-room-requires : tie.Need-has-room-requires
+has-room-requires c κs =
     let h = c .before .before in
     let a = (Begun h) .args in
     (start-there (a .settings) (a .file .now) (file-bytes h) (said h) (was-read h), heads-there (a .settings) (a .file .now) (file-bytes h) (said h) (was-read h), few h)
@@ -57,7 +62,7 @@ returns-2 c =
     let h = c .before .before .before .before in
     let a = (Begun h) .args in
     ends-full (cutOf (a .settings) (a .selection) (a .file .now)) (a .out .now) _ (cut-gives (a .settings) (a .file .now) (file-bytes h) (said h) (was-read h) (a .selection) (is-good h))
-    (omega (arith, written-long (a .settings) (a .file .now) (file-bytes h) (said h) (was-read h) (a .selection), c .before .cut-length .ensures, c .if2 .taken))
+    (omega (arith, written-long (a .settings) (a .file .now) (file-bytes h) (said h) (was-read h) (a .selection), leb-false (needed h) (length (a .out .now)) (sym (c .before .has-room .ensures) ∙ not-true _ (c .if2 .taken))))
 
 write-cut-requires : tie.Need-write-cut-requires
 write-cut-requires c κs =
@@ -66,7 +71,7 @@ write-cut-requires c κs =
       start-there (a .settings) (a .file .now) (file-bytes h) (said h) (was-read h),
       heads-there (a .settings) (a .file .now) (file-bytes h) (said h) (was-read h),
       few h,
-      omega (arith, c .before .before .cut-length .ensures, c .before .if2 .left),
+      leb-true (needed h) (length (a .out .now)) (sym (c .before .before .has-room .ensures) ∙ not-false _ (c .before .if2 .left)),
     )
 
 returns-3 : tie.Need-returns-3
@@ -84,10 +89,10 @@ returns-4 c =
     let w = c .before .before .write-cut in
     let l = written-long (a .settings) (a .file .now) (file-bytes h) (said h) (was-read h) (a .selection) in
     ends-written (cutOf (a .settings) (a .selection) (a .file .now)) (a .out .now) _ (w .result) (w .last .1 .1 .1 .1 .0) (cut-gives (a .settings) (a .file .now) (file-bytes h) (said h) (was-read h) (a .selection) (is-good h))
-    (w .ensures .0 ∙ sym l) (omega (arith, l, c .before .before .before .before .before .cut-length .ensures, c .before .before .before .before .if2 .left))
+    (w .ensures .0 ∙ sym l) (omega (arith, l, leb-true (needed h) (length (a .out .now)) (sym (c .before .before .before .before .before .has-room .ensures) ∙ not-false _ (c .before .before .before .before .if2 .left))))
     (w .ensures .1 ∙ ap (λ n. written (a .settings) (a .file .now) (file-bytes h) (said h) (was-read h) (a .selection) ++ drop n (a .out .now)) (sym (w .ensures .0)))
 
 pub cut-spec : {M : Type 1} → statement M
 cut-spec =
     tie.close
-    (tie.spec (λ c κs. search needs) returns (λ c κs. search needs) (λ c. search needs) (λ c. search needs) cut-length-requires returns-2 write-cut-requires returns-3 (λ c. search needs) returns-4)
+    (tie.spec (λ c κs. search needs) returns (λ c κs. search needs) (λ c. search needs) (λ c. search needs) has-room-requires returns-2 write-cut-requires returns-3 (λ c. search needs) returns-4)
