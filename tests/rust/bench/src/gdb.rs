@@ -17,6 +17,8 @@ struct Work {
     first: Vec<u8>,
     second: Vec<u8>,
     out: Vec<u8>,
+    /// The length of the cut that keeps half of the frames.
+    half: usize,
     /// The library's frame table and that of plain Rust.
     records: Vec<Record>,
     frames: Vec<Frame>,
@@ -26,16 +28,19 @@ impl Work {
     /// Every buffer is written here, so that no call is the first to touch one.
     fn new(frames: Frames, big: bool) -> Work {
         let file = files::trace(frames, big, LONGEST);
-        let half = files::trace(frames, big, LONGEST / 2);
+        let joined = files::trace(frames, big, LONGEST / 2);
         let order = u8::from(big);
         let count = (Side::Plain.reader().frame_count)(order, &file).count;
         let frame = Frame { tracepoint: 1, data: Part { place: 1, length: 1 } };
+        let mut out = vec![1; LONGEST];
+        let half = (Side::Plain.reader().cut)(order, &file, half_of_numbers(), &mut out).length;
         Work {
             order,
             file,
-            second: half.clone(),
-            first: half,
-            out: vec![1; LONGEST],
+            second: joined.clone(),
+            first: joined,
+            out,
+            half,
             records: vec![[1; 3]; count],
             frames: vec![frame; count],
         }
@@ -76,10 +81,25 @@ fn last_memory(side: Side, work: &mut Work) -> Told {
     (answer.refusal, answer.place, answer.length)
 }
 
-fn cut(side: Side, work: &mut Work) -> Told {
+/// The selection that keeps half of the tracepoint numbers.
+fn half_of_numbers() -> Selection {
     let mut selection = Selection { count: 1, keep: 1, ..Selection::default() };
     selection.ranges[0] = Range { low: 1, high: NUMBERS as u16 / 2 };
-    let answer = (side.reader().cut)(work.order, black_box(&work.file), selection, &mut work.out);
+    selection
+}
+
+/// The output is as long as the file: the library need not look for the cut's length before it writes, plain Rust does.
+fn cut(side: Side, work: &mut Work) -> Told {
+    cut_into(side, work, work.out.len())
+}
+
+/// The output is as long as the cut: both readers walk the frames twice.
+fn cut_that_just_fits(side: Side, work: &mut Work) -> Told {
+    cut_into(side, work, work.half)
+}
+
+fn cut_into(side: Side, work: &mut Work, room: usize) -> Told {
+    let answer = (side.reader().cut)(work.order, black_box(&work.file), half_of_numbers(), &mut work.out[..room]);
     (answer.refusal, answer.length, 0)
 }
 
@@ -106,12 +126,13 @@ struct Question {
     copy: Option<fn(&mut Work, usize)>,
 }
 
-const QUESTIONS: [Question; 6] = [
+const QUESTIONS: [Question; 7] = [
     Question { name: "number of frames", ask: frame_count, copy: None },
     Question { name: "frame table", ask: frame_table, copy: None },
     Question { name: "last frame", ask: last_frame, copy: None },
     Question { name: "memory in the last frame", ask: last_memory, copy: None },
     Question { name: "cut, half kept", ask: cut, copy: Some(copy_of_cut) },
+    Question { name: "the same, output just fits", ask: cut_that_just_fits, copy: Some(copy_of_cut) },
     Question { name: "join of two halves", ask: join, copy: Some(copy_of_join) },
 ];
 
