@@ -1,6 +1,8 @@
 -- Lists: what the definitions of every format share, and small facts.
 -- Assumes nothing.
 use mathlib.Core.Path.{_≡_, refl, sym, ap, _∙_}
+use mathlib.Core.Bool.{Bool, true, false, _||_}
+use mathlib.Core.Logic.{_⊎_}
 use Prim.Native.Nat.{ℕ, _+_, _-_, _<_, _≤_}
 use native.Mathlib.Numerals.{add-one}
 use native.Mathlib.Omega.{arith}
@@ -21,6 +23,41 @@ Each P (x ∷ xs) = P x × Each P xs
 -- from a contradiction anything follows
 pub clash : {X : Type 0} → _≡_ {A = ℕ} 0 1 → X
 clash e = absurd (omega arith)
+
+-- P holds of some element
+abbrev pub Some : {A : Type 0} → (A → Type 0) → List A → Type 0
+Some P [] = ⊥
+Some P (x ∷ xs) = P x ⊎ Some P xs
+
+-- each element fits after those before it: `s` says what was met so far, and `after` with one more
+abbrev pub EachAfter : {A S : Type 0} → (S → A → Type 0) → (S → A → S) → S → List A → Type 0
+EachAfter F after s [] = Unit {0}
+EachAfter F after s (x ∷ xs) = F s x × EachAfter F after (after s x) xs
+
+-- how many elements pass a test
+abbrev pub one : Bool → ℕ
+one true = 1
+one false = 0
+
+abbrev pub count : {A : Type 0} → (A → Bool) → List A → ℕ
+count p [] = 0
+count p (x ∷ xs) = one (p x) + count p xs
+
+abbrev pub AtMostOne : {A : Type 0} → (A → Bool) → List A → Type 0
+AtMostOne p xs = count p xs ≤ 1
+
+-- the same met one by one: an element that passes is the first such. k more pass after it.
+pub first-of : (seen t : Bool) (k : ℕ) → (t ≡ true → seen ≡ false) → one (seen || t) + k ≤ 1 → one seen + (one t + k) ≤ 1
+first-of false false k h e = omega arith
+first-of false true k h e = omega arith
+first-of true false k h e = omega arith
+first-of true true k h e = let z : true ≡ false = h refl in clash (cc)
+
+pub first-then : (seen t : Bool) (k : ℕ) → one seen + (one t + k) ≤ 1 → (t ≡ true → seen ≡ false) × (one (seen || t) + k ≤ 1)
+first-then false false k e = ((λ h. refl), omega arith)
+first-then false true k e = ((λ h. refl), omega arith)
+first-then true false k e = ((λ h. clash (cc)), omega arith)
+first-then true true k e = absurd (omega arith)
 
 pub drop-one : (l : List ℕ) (k : ℕ) → k < length l → drop k l ≡ getD l k 0 ∷ drop (k + 1) l
 drop-one l k h = rw (add-one k) (drop-cons l k 0 h)

@@ -30,7 +30,7 @@ trace-back f t h =
     )
 
 made-forth : (f : Format) (b rest : List ℕ) (ls : List (List ℕ)) (fs : List Frame) (t : Trace) → length b ≤ limit
-    → LinesFit f [] ls × (opening ls ++ rest ≡ b) → Each (FrameFits f (registerSize f ls)) fs × (flat (putFrame f) fs ≡ rest)
+    → LinesFit f ls × (opening ls ++ rest ≡ b) → Each (FrameFits f (registerSize f ls)) fs × (flat (putFrame f) fs ≡ rest)
     → _≡_ {A = Answer Trace} (accepted (traceOf ls fs)) (accepted t) → Layout f t × (encode f t ≡ b)
 unfolding encode
 made-forth f b rest ls fs t k l g e =

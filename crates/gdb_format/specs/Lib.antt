@@ -2,6 +2,7 @@ pub mod Settings
 pub mod Trace
 pub mod Lines
 pub mod Layout
+pub mod LineLaws
 pub mod Decode
 pub mod Opening
 pub mod Seen

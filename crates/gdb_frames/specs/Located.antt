@@ -13,7 +13,7 @@ use Rattle.fields.specs.Number.{Bytes, field, length-field}
 use Rattle.fields.specs.Answer.{Answer, accepted, refused, next, never, next-inv, refused-inv, accepted-one, accepted-inj, next-assoc}
 use Rattle.gdb_format.specs.Trace.{Frame, Trace, opening, putFrame, dataOf}
 use Rattle.gdb_format.specs.Lines.{registerSize, kindOf}
-use Rattle.gdb_format.specs.Layout.{LinesFit, FrameFits}
+use Rattle.gdb_format.specs.Layout.{LineFits, FrameFits}
 use Rattle.gdb_format.specs.Decode.{frameHead, read}
 use Rattle.gdb_format.specs.Opening.{sizeIn}
 use Rattle.gdb_format.specs.ExactFrame.{exact-head}
@@ -118,13 +118,13 @@ frame-data-of s b n = frame-data-in (read s b) n
 
 -- ---- line j
 
-lines-each : (f : Format) (before ls : List (List ℕ)) → LinesFit f before ls → Each IsLine ls
-lines-each f before [] h = tt
-lines-each f before (l ∷ ls) h = ((h .0, h .1), lines-each f (before ++ l ∷ []) ls (h .3))
+lines-each : (f : Format) (ls : List (List ℕ)) → Each (LineFits f) ls → Each IsLine ls
+lines-each f [] h = tt
+lines-each f (l ∷ ls) h = ((h .0 .0, h .0 .1), lines-each f ls (h .1))
 
 pub line-nth : (f : Format) (b : List ℕ) (t : Trace) (j : ℕ) → File f b t
     → nthLine b j 8 ≡ next (nth (linesAt t) j) (λ r. accepted (r .0, length (r .1)))
-line-nth f b t j i = nth-line b (flat (putFrame f) (t .frames)) j (t .lines) 8 (lines-each f [] (t .lines) (i .fits .lines-fit)) (lines-behind f b t i)
+line-nth f b t j i = nth-line b (flat (putFrame f) (t .frames)) j (t .lines) 8 (lines-each f (t .lines) (i .fits .lines-fit .0)) (lines-behind f b t i)
 
 module _ (s : Settings) (b : List ℕ) (h : Bytes b) (m : Summary) (e : accepted m ≡ readSeen (read s b)) (j : ℕ) where
   pub line-missing : (k : ℕ) → refused k ≡ nthLine b j 8 → refused k ≡ asked s b (lineAt j)
