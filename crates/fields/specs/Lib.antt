@@ -8,3 +8,4 @@ pub mod Takes
 pub mod Exact
 pub mod At
 pub mod Got
+pub mod Output

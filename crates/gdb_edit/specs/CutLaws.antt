@@ -188,7 +188,7 @@ bytes-same [] = refl
 bytes-same (x ∷ a) = rw (eq-eqb x x refl) (bytes-same a)
 
 -- identical openings are identical lines
-pub same-lines : (f : Format) (ls ms : List (List ℕ)) → LinesFit f [] ls → LinesFit f [] ms → opening ls ≡ opening ms → ls ≡ ms
+pub same-lines : (f : Format) (ls ms : List (List ℕ)) → LinesFit f ls → LinesFit f ms → opening ls ≡ opening ms → ls ≡ ms
 same-lines f ls ms h k e =
     (accepted-inj (sym ((exact-opening f) .back ls [] h) ∙ ap (λ b. openingLines f (b ++ [])) e ∙ (exact-opening f) .back ms [] k)) .0
 

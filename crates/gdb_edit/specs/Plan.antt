@@ -9,13 +9,13 @@ use lib.ListN.{length, take}
 use Rattle.refusals.specs.Refusal.{limit}
 use Rattle.fields.specs.Number.{Bytes}
 use Rattle.fields.specs.Answer.{Answer, accepted, refused}
+use Rattle.fields.specs.Output.{answer, exit}
 use Rattle.gdb_format.specs.Trace.{Trace, traceOf, opening, encode}
 use Rattle.gdb_format.specs.Decode.{read}
 use Rattle.gdb_format.specs.declared.Settings.{Settings}
 use Rattle.gdb_format.specs.declared.Format.{Format}
 use Rattle.gdb_edit.specs.Selection.{meaning, valid}
 use Rattle.gdb_edit.specs.Cut.{cut, join, cutOf, joinOf}
-use Rattle.gdb_edit.specs.Output.{answer, exit}
 use Rattle.gdb_edit.specs.declared.Selection.{Selection}
 
 pub data Plan : Type 0 where

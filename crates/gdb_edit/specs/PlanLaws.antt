@@ -8,6 +8,7 @@ use lib.Seq.{take-at}
 use borrow.Author.Tests.{le-leb}
 use Rattle.fields.specs.Number.{Bytes, bytes-front}
 use Rattle.fields.specs.Answer.{Answer, accepted}
+use Rattle.fields.specs.Output.{answer, exit}
 use Rattle.gdb_format.specs.Trace.{Trace, traceOf, opening, encode}
 use Rattle.gdb_format.specs.Settings.{settingsOf}
 use Rattle.gdb_format.specs.Decode.{read}
@@ -17,7 +18,6 @@ use Rattle.gdb_frames.specs.File.{File, file-of}
 use Rattle.gdb_edit.specs.Selection.{meaning}
 use Rattle.gdb_edit.specs.Cut.{cut, join, bare, cutOf, joinOf}
 use Rattle.gdb_edit.specs.CutLaws.{layout-cut, layout-join, layout-bare, encode-bare, holds, bytes-of, read-file, cut-call, join-call}
-use Rattle.gdb_edit.specs.Output.{answer, exit}
 use Rattle.gdb_edit.specs.Plan.{Plan, file, cutting, joining, value, upTo, IsWritten, HasRoom, bareOpening, result, Done, Fits, Same}
 
 -- a call with room gives all its bytes, and the output up to the returned length is those

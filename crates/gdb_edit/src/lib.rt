@@ -4,9 +4,10 @@ ghost use mathlib.Core.List.{_++_};
 ghost use Prim.Native.Nat.{_+_, _≤_};
 ghost use lib.Dec.{leb};
 ghost use lib.ListN.{length, take, drop};
+ghost use Rattle.fields.specs.Output.{Lent};
 ghost use Rattle.gdb_edit.specs.Selection.{inSome, selects, meaning, valid, against};
 ghost use Rattle.gdb_edit.specs.Cut.{cutOf, joinOf};
-ghost use Rattle.gdb_edit.specs.Output.{Ends};
+ghost use Rattle.gdb_edit.specs.Output.{editAnswer};
 ghost use Rattle.gdb_edit.specs.Kept.{kept, Heads};
 ghost use Rattle.gdb_edit.specs.Joined.{pairMeaning, pairSeen};
 use gdb_format::Format;
@@ -165,7 +166,7 @@ fn write_cut(
 
 // The opening of `file`, then its frames that the selection selects.
 pub fn cut(settings: Settings, file: &[u8], selection: Selection, out: &mut [u8]) -> EditAnswer
-    ensures { λ r. ⌜ Ends (cutOf settings selection (now (file .entry))) (now (out .entry)) r (now (out .exit)) ⌝ }
+    ensures { λ r. ⌜ Lent (cutOf settings selection (now (file .entry))) (now (out .entry)) (editAnswer r) (now (out .exit)) ⌝ }
 {
     if !is_valid(selection) {
         return EditAnswer::Refused(BAD_ARGUMENT);
@@ -216,7 +217,7 @@ pub fn joinable(settings: Settings, first: &[u8], second: &[u8]) -> Pair
 
 // The common opening, the first trace's frames and the second's.
 pub fn join(settings: Settings, first: &[u8], second: &[u8], out: &mut [u8]) -> EditAnswer
-    ensures { λ r. ⌜ Ends (joinOf settings (now (first .entry)) (now (second .entry))) (now (out .entry)) r (now (out .exit)) ⌝ }
+    ensures { λ r. ⌜ Lent (joinOf settings (now (first .entry)) (now (second .entry))) (now (out .entry)) (editAnswer r) (now (out .exit)) ⌝ }
 {
     match joinable(settings, first, second) {
         Pair::Refused(n) => EditAnswer::Refused(n),

@@ -7,7 +7,7 @@ use mathlib.Core.List.{[], _∷_}
 use lib.ListN.{length, replicate, length-replicate, length-append}
 use borrow.Author.Tests.{lt-leb}
 use Rattle.refusals.specs.Refusal.{limit, tooLong}
-use Rattle.fields.specs.Lists.{flat}
+use Rattle.fields.specs.Lists.{flat, clash}
 use Rattle.fields.specs.Number.{length-field}
 use Rattle.fields.specs.Answer.{accepted, refused}
 use Rattle.gdb_format.specs.Trace.{Trace, traceOf, putFrame, opening, encode}
@@ -42,7 +42,7 @@ module _ (s : Settings) (f : Format) (ok : settingsOf s ≡ accepted f) (k : ℕ
   file-long : k + 17 ≤ limit → File f (encode f (long k)) (long k)
   file-long h =
       holds f (long k) (encode f (long k)) (record {
-        lines-fit = (omega arith, ((λ e. absurd (omega arith)), no-end k), refl, tt);
+        lines-fit = (((omega arith, ((λ e. absurd (omega arith)), no-end k), λ e. clash (cc)), tt), omega arith, omega arith);
         frames-fit = ((omega arith, omega arith, tt), tt);
         length-fits = omega (arith, h, length-encode f (long k), opening-long, frame-long);
       }) refl

@@ -15,7 +15,7 @@ use Rattle.gdb_read.specs.Steps.{Carried, registers, memory, variable}
 use Rattle.gdb_frames.specs.Questions.{asked}
 use Rattle.gdb_table.specs.Records.{tableCount, frameTable, written}
 use Rattle.gdb_table.specs.declared.FrameRecord.{FrameRecord}
-use Rattle.gdb_edit.specs.Output.{answer, exit}
+use Rattle.fields.specs.Output.{answer, exit}
 use Rattle.gdb_edit.specs.declared.Selection as edit
 use Rattle.gdb_pair.specs.Pair.{Side, first, second}
 use Rattle.trace_c.specs.declared.questions.Count.{Count}

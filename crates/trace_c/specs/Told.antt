@@ -20,7 +20,7 @@ use Rattle.gdb_blocks.specs.Search.{earliest, inFrame, nthSeen, blockAt, regist
 use Rattle.gdb_table.specs.Records.{tableCount}
 use Rattle.gdb_edit.specs.Selection.{valid, selectionOf}
 use Rattle.gdb_edit.specs.Cut.{join, cutOf, sameBytes, joinOf}
-use Rattle.gdb_edit.specs.Output.{fitting, answer}
+use Rattle.fields.specs.Output.{fitting, answer}
 use Rattle.gdb_edit.specs.declared.Selection as edit
 use Rattle.gdb_pair.specs.Pair.{Side, pairPlace, pairVariable}
 use Rattle.trace_c.specs.Flat.{flatCount, flatPlace, flatLine, flatBlock, flatValue, flatLength, flatPair}

@@ -15,7 +15,7 @@ use Rattle.gdb_read.specs.Steps.{Summary, readingMeaning, summarySaid, readSeen
 use Rattle.gdb_edit.specs.Selection.{valid, inOrder, meaning}
 use Rattle.gdb_edit.specs.Cut.{cutOf}
 use Rattle.gdb_edit.specs.Kept.{kept}
-use Rattle.gdb_edit.specs.Output.{ends-written, ends-full, ends-refused}
+use Rattle.fields.specs.Output.{lent-written, lent-full, lent-refused}
 use Rattle.gdb_edit.proofs.Cuts.{cut-invalid, cut-refused, heads-there, start-there, written, cut-gives, written-long}
 use Prim.Native.Nat.{ℕ, _+_, _≤_}
 use borrow.Author.Needs.{needs}
@@ -49,7 +49,7 @@ needed h = said h .start + length (kept (said h .format) (meaning (Begun h .args
 returns : tie.Need-returns
 returns c =
     let a = c .before .before .before .before .args in
-    ends-refused (cutOf (a .settings) (a .selection) (a .file .now)) (a .out .now) badArgument (cut-invalid (a .settings) (a .selection) (a .file .now) (sym (c .before .is-valid .ensures) ∙ not-true _ (c .if1 .taken)))
+    lent-refused (cutOf (a .settings) (a .selection) (a .file .now)) (a .out .now) badArgument (cut-invalid (a .settings) (a .selection) (a .file .now) (sym (c .before .is-valid .ensures) ∙ not-true _ (c .if1 .taken)))
 
 has-room-requires : tie.Need-has-room-requires
 has-room-requires c κs =
@@ -61,7 +61,7 @@ returns-2 : tie.Need-returns-2
 returns-2 c =
     let h = c .before .before .before .before in
     let a = (Begun h) .args in
-    ends-full (cutOf (a .settings) (a .selection) (a .file .now)) (a .out .now) _ (cut-gives (a .settings) (a .file .now) (file-bytes h) (said h) (was-read h) (a .selection) (is-good h))
+    lent-full (cutOf (a .settings) (a .selection) (a .file .now)) (a .out .now) _ (cut-gives (a .settings) (a .file .now) (file-bytes h) (said h) (was-read h) (a .selection) (is-good h))
     (omega (arith, written-long (a .settings) (a .file .now) (file-bytes h) (said h) (was-read h) (a .selection), leb-false (needed h) (length (a .out .now)) (sym (c .before .has-room .ensures) ∙ not-true _ (c .if2 .taken))))
 
 write-cut-requires : tie.Need-write-cut-requires
@@ -78,7 +78,7 @@ returns-3 : tie.Need-returns-3
 returns-3 c =
     let a = c .before .before .before .before .before .before .before .before .args in
     let g = c .before .n .given in
-    ends-refused (cutOf (a .settings) (a .selection) (a .file .now)) (a .out .now) (g .0 .0)
+    lent-refused (cutOf (a .settings) (a .selection) (a .file .now)) (a .out .now) (g .0 .0)
     (cut-refused (a .settings) (a .selection) (a .file .now) (g .0 .0) (sym (c .before .before .before .before .before .is-valid .ensures) ∙ not-false _ (c .before .before .before .before .if1 .left))
     (ap readingMeaning (sym (g .1)) ∙ c .before .before .before .read .ensures))
 
@@ -88,7 +88,7 @@ returns-4 c =
     let a = (Begun h) .args in
     let w = c .before .before .write-cut in
     let l = written-long (a .settings) (a .file .now) (file-bytes h) (said h) (was-read h) (a .selection) in
-    ends-written (cutOf (a .settings) (a .selection) (a .file .now)) (a .out .now) _ (w .result) (w .last .1 .1 .1 .1 .0) (cut-gives (a .settings) (a .file .now) (file-bytes h) (said h) (was-read h) (a .selection) (is-good h))
+    lent-written (cutOf (a .settings) (a .selection) (a .file .now)) (a .out .now) _ (w .result) (w .last .1 .1 .1 .1 .0) (cut-gives (a .settings) (a .file .now) (file-bytes h) (said h) (was-read h) (a .selection) (is-good h))
     (w .ensures .0 ∙ sym l) (omega (arith, l, leb-true (needed h) (length (a .out .now)) (sym (c .before .before .before .before .before .has-room .ensures) ∙ not-false _ (c .before .before .before .before .if2 .left))))
     (w .ensures .1 ∙ ap (λ n. written (a .settings) (a .file .now) (file-bytes h) (said h) (was-read h) (a .selection) ++ drop n (a .out .now)) (sym (w .ensures .0)))
 

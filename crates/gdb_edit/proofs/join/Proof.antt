@@ -9,7 +9,7 @@ use Rattle.fields.specs.Number.{Bytes, bytes-all}
 use Rattle.fields.specs.Answer.{accepted}
 use Rattle.gdb_read.specs.Steps.{summarySaid}
 use Rattle.gdb_edit.specs.Cut.{joinOf}
-use Rattle.gdb_edit.specs.Output.{ends-written, ends-full, ends-refused}
+use Rattle.fields.specs.Output.{lent-written, lent-full, lent-refused}
 use Rattle.gdb_edit.specs.Joined.{pairMeaning}
 use Rattle.gdb_edit.specs.JoinLaws.{pair-refused, pair-joins}
 use Rattle.gdb_edit.proofs.Outputs.{first-over, more-long, more-out}
@@ -46,7 +46,7 @@ returns c =
     let h = c .before .before in
     let a = (Begun h) .args in
     let j = joins h in
-    ends-full (joinOf (a .settings) (a .first .now) (a .second .now)) (a .out .now) _ (j .0) (omega (arith, j .1, c .if1 .taken))
+    lent-full (joinOf (a .settings) (a .first .now) (a .second .now)) (a .out .now) _ (j .0) (omega (arith, j .1, c .if1 .taken))
 
 sub-if2-2 : tie.Need-sub-if2-2
 sub-if2-2 c = (joins (c .before .before)) .2
@@ -56,7 +56,7 @@ returns-2 c =
     let h = c .before .before .before in
     let a = (Begun h) .args in
     let j = joins h in
-    ends-full (joinOf (a .settings) (a .first .now) (a .second .now)) (a .out .now) _ (j .0) (omega (arith, j .1, j .2, c .before .if1 .left, c .if2 .taken))
+    lent-full (joinOf (a .settings) (a .first .now) (a .second .now)) (a .out .now) _ (j .0) (omega (arith, j .1, j .2, c .before .if1 .left, c .if2 .taken))
 
 sub-copy : tie.Need-sub-copy
 sub-copy c = (joins (c .before .before .before .before .before .before .before)) .2
@@ -83,7 +83,7 @@ returns-3 : tie.Need-returns-3
 returns-3 c =
     let a = c .before .before .before .before .before .before .before .args in
     let g = c .before .n .given in
-    ends-refused (joinOf (a .settings) (a .first .now) (a .second .now)) (a .out .now) (g .0 .0)
+    lent-refused (joinOf (a .settings) (a .first .now) (a .second .now)) (a .out .now) (g .0 .0)
     (pair-refused (a .settings) (a .first .now) (a .second .now) (g .0 .0) (first-bytes (c .before .before .before .before .before .before)) (second-bytes (c .before .before .before .before .before)) (ap pairMeaning (sym (g .1)) ∙ c .before .before .before .joinable .ensures))
 
 returns-4 : tie.Need-returns-4
@@ -97,7 +97,7 @@ returns-4 c =
     let f : List ℕ = take (length (a .second .now) - j) (drop j (a .second .now)) in
     let e : f ≡ drop j (a .second .now) = take-all (length (a .second .now) - j) (drop j (a .second .now)) (omega (arith, length-drop j (a .second .now))) in
     let w = first-over (a .first .now) (a .out .now) (k .last .1 .0) (k .result) (k .ensures .0) (k .ensures .1) in
-    ends-written (joinOf (a .settings) (a .first .now) (a .second .now)) (a .out .now) (a .first .now ++ f) (k .result + m .result) _
+    lent-written (joinOf (a .settings) (a .first .now) (a .second .now)) (a .out .now) (a .first .now ++ f) (k .result + m .result) _
     (q .0 ∙ ap (λ x. accepted (a .first .now ++ x)) (sym e))
     (sym (more-long (a .first .now) (a .out .now) (k .last .1 .0) (k .result) (sym (k .ensures .0)) w f (m .last .1 .0) (m .result) (m .ensures .0) (m .ensures .1)))
     (omega (arith, q .1, ap (λ x. length (a .first .now ++ x)) e, c .before .before .before .before .before .before .before .before .before .before .if1 .left, c .before .before .before .before .before .before .before .before .before .if2 .left))

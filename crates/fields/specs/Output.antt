@@ -1,0 +1,49 @@
+-- What a call that gives a list does with an output that is lent to it: bytes, or records.
+-- Assumes nothing.
+use mathlib.Core.Path.{_≡_, refl, ap, _∙_}
+use mathlib.Core.Bool.{cond}
+use Prim.Native.Nat.{ℕ, _<_, _≤_}
+use mathlib.Core.List.{List, _++_}
+use lib.ListN.{length, drop}
+use lib.Dec.{leb}
+use borrow.Author.Tests.{le-leb, lt-leb}
+use Rattle.refusals.specs.Refusal.{noRoom}
+use Rattle.fields.specs.Answer.{Answer, accepted, refused, next}
+
+-- 11 where the result is longer than the output; it comes last
+abbrev pub fitting : {A : Type 0} → List A → Answer (List A) → Answer (List A)
+fitting out (accepted c) = cond (leb (length c) (length out)) (accepted c) (refused noRoom)
+fitting out (refused n) = refused n
+
+-- the result at the front, and the output beyond it unchanged; all of it unchanged on a refusal
+abbrev pub over : {A : Type 0} → List A → Answer (List A) → List A
+over out (accepted c) = c ++ drop (length c) out
+over out (refused n) = out
+
+-- the answer of a call that gives x: the length, or the refusal; and what the lent output holds at exit
+abbrev pub answer : {A : Type 0} → Answer (List A) → List A → Answer ℕ
+answer x out = next (fitting out x) (λ c. accepted (length c))
+
+abbrev pub exit : {A : Type 0} → Answer (List A) → List A → List A
+exit x out = over out (fitting out x)
+
+-- a call that gives x and is lent `out` answers r and leaves l there
+pub record Lent {A : Type 0} (x : Answer (List A)) (out : List A) (r : Answer ℕ) (l : List A) : Type 0 where
+  pub answers : r ≡ answer x out
+  pub leaves : l ≡ exit x out
+
+-- ---- the three outcomes: there is room, there is none, or it was refused before
+
+module _ {A : Type 0} (x : Answer (List A)) (out : List A) where
+  pub lent-written : (c : List A) (n : ℕ) (l : List A) → x ≡ accepted c → n ≡ length c → length c ≤ length out → l ≡ c ++ drop n out → Lent x out (accepted n) l
+  lent-written c n l e en h el =
+      rw (e, en) (record {
+        answers = rw (le-leb (length c) (length out) h);
+        leaves = rw (le-leb (length c) (length out) h) (el ∙ ap (λ m. c ++ drop m out) en);
+      })
+
+  pub lent-full : (c : List A) → x ≡ accepted c → length out < length c → Lent x out (refused noRoom) out
+  lent-full c e h = rw e (record { answers = rw (lt-leb (length c) (length out) h); leaves = rw (lt-leb (length c) (length out) h) })
+
+  pub lent-refused : (n : ℕ) → x ≡ refused n → Lent x out (refused n) out
+  lent-refused n e = rw e (record { answers = refl; leaves = refl })
