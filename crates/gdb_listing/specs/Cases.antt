@@ -6,7 +6,7 @@ use mathlib.Core.List.{List, [], _∷_, _++_}
 use Rattle.fields.specs.Lists.{Each}
 use Rattle.gdb_format.specs.Trace.{head, opening}
 use Rattle.gdb_format.specs.Decode.{read}
-use Rattle.gdb_listing.specs.Text.{decimal, ended, lineOf, text, listed, little}
+use Rattle.gdb_listing.specs.Text.{decimal, ended, lineOf, text, listed}
 
 -- ---- numbers
 
@@ -45,6 +45,6 @@ badStart = 0x72 ∷ 0x65 ∷ 0x66 ∷ 0x75 ∷ 0x73 ∷ 0x65 ∷ 0x64 ∷ 0x20 �
 abbrev pub listings : List (List ℕ × List ℕ)
 listings = (twoRegisters, oneFrame) ∷ (head ++ 0x0A ∷ [], noFrame) ∷ ([], badStart) ∷ []
 
-pub listings-hold : Each (λ r. text (listed little (r .0)) ≡ r .1) listings
+pub listings-hold : Each (λ r. text (listed (r .0)) ≡ r .1) listings
 unfolding read opening listed lineOf ended decimal
 listings-hold = (refl, (refl, (refl, tt)))

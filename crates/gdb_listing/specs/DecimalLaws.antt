@@ -58,6 +58,17 @@ decimal-long (suc k) n h =
     let d : n / 10 < 10 ^ suc k = div-lt-iff-lt-mul (zero-lt-suc 9) .1 (rw (pow-suc 10 (suc k)) at h) in
     ⊎-elim (few k n) (more k n (decimal-long k (n / 10) d)) (eq-zero-or-pos (n / 10))
 
+-- a number of 64 bits has at most 20 digits
+pub decimal-word : (n : ℕ) → n < 2 ^ 64 → length (decimal n) ≤ 20
+decimal-word n h = decimal-long 19 n (omega arith)
+
+-- one digit counted, and the others
+pub decimal-count : (n len total : ℕ) → 10 ≤ n → len + length (decimal n) ≡ total → len + 1 + length (decimal (n / 10)) ≡ total
+decimal-count n len total h e = omega (arith, ap length (decimal-more n h), length-append (decimal (n / 10)) ((0x30 + n % 10) ∷ []), e)
+
+pub decimal-last : (n len total : ℕ) → n < 10 → len + length (decimal n) ≡ total → len + 1 ≡ total
+decimal-last n len total h e = omega (arith, ap length (decimal-one n h), e)
+
 -- ---- a number written, digit by digit
 
 module _ (at n size : ℕ) (h : at + length (decimal n) ≤ size) where
@@ -90,6 +101,10 @@ line-length r =
     let b = ended (r .place) 0x20 in
     let c = ended (r .size) 0x0A in
     omega (arith, length-append (ended (r .tracepoint) 0x20) (b ++ c), length-append b c)
+
+-- three numbers, each with the byte that ends it
+pub line-digits : (r : Row) → length (lineOf r) ≡ length (decimal (r .tracepoint)) + length (decimal (r .place)) + length (decimal (r .size)) + 3
+line-digits r = omega (arith, line-length r, ended-length (r .tracepoint) 0x20, ended-length (r .place) 0x20, ended-length (r .size) 0x0A)
 
 pub puts-line : {out one two after : List ℕ} {at a b e : ℕ} (r : Row) → Puts out at (ended (r .tracepoint) 0x20) a one → Puts one a (ended (r .place) 0x20) b two
     → Puts two b (ended (r .size) 0x0A) e after → Puts out at (lineOf r) e after

@@ -1,18 +1,18 @@
 -- The rows of a trace by walking its heads, and their lines as they are written.
 -- Assumes nothing.
-use mathlib.Core.Path.{_≡_, refl}
-use Prim.Native.Nat.{ℕ, zero, suc, _-_, _*_, _<_, _≤_}
+use mathlib.Core.Path.{_≡_, refl, ap}
+use Prim.Native.Nat.{ℕ, zero, suc, _+_, _-_, _*_, _<_, _≤_}
 use native.Mathlib.Omega.{arith}
 use mathlib.Core.Option.{Option, none, some}
 use mathlib.Core.List.{List, [], _∷_, _++_}
-use lib.ListN.{length}
+use lib.ListN.{length, length-append}
 use Rattle.fields.specs.Lists.{flat}
 use Rattle.fields.specs.Answer.{Answer, accepted, refused}
 use Rattle.fields.specs.Reader.{stepAt}
 use Rattle.gdb_format.specs.Decode.{frameHead}
 use Rattle.gdb_format.specs.declared.Format.{Format}
 use Rattle.gdb_read.specs.Steps.{Row, headSeen}
-use Rattle.gdb_listing.specs.Text.{lineOf, limit}
+use Rattle.gdb_listing.specs.Text.{lineOf, listingLimit}
 use Rattle.gdb_listing.specs.Written.{Puts, Left, left-none}
 
 -- a row and those after it; none where nothing stands
@@ -60,8 +60,16 @@ module _ {before v out : List ℕ} {start at : ℕ} (rows : List Row) (l : Left 
   pub lines-on : (r : Row) (more : List Row) → rows ≡ r ∷ more → Left before start v out at (lineOf r ++ flat lineOf more)
   lines-on r more e = rw e at l
 
+-- the lines counted one by one: those of `rows` are left, and the others take `len` bytes of `total`
+module _ (total len : ℕ) (rows : List Row) (l : len + length (flat lineOf rows) ≡ total) where
+  pub counted-end : rows ≡ [] → len ≡ total
+  counted-end e = omega (arith, l, ap (λ r. length (flat lineOf r)) e)
+
+  pub counted-on : (r : Row) (more : List Row) → rows ≡ r ∷ more → len + length (lineOf r) + length (flat lineOf more) ≡ total
+  counted-on r more e = omega (arith, l, ap (λ r. length (flat lineOf r)) e, length-append (lineOf r) (flat lineOf more))
+
 -- n frames stand from `at` on, few enough to be counted, and their lines are short
 pub record Listable (f : Format) (s : List ℕ) (n at : ℕ) : Type 0 where
   pub count : length (rowsFrom f s n at) ≡ n
-  pub few : n ≤ limit
+  pub few : n ≤ listingLimit
   pub short : length (flat lineOf (rowsFrom f s n at)) ≤ 18 * n

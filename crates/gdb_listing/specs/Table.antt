@@ -25,8 +25,8 @@ use Rattle.gdb_frames.specs.Questions.{asked, table}
 use Rattle.gdb_frames.specs.Nth.{nthHead, shownNth}
 use Rattle.gdb_frames.specs.File.{File, file-of, asked-refused, told}
 use Rattle.gdb_frames.specs.Located.{head-nth}
-use Rattle.gdb_listing.specs.Text.{ended, lineOf, framesWord, text, limit, wholeTable, listed, roomFor}
-use Rattle.gdb_listing.specs.DecimalLaws.{line-short}
+use Rattle.gdb_listing.specs.Text.{decimal, ended, lineOf, framesWord, refusedWord, text, listingLimit, little, wholeTable, listed}
+use Rattle.gdb_listing.specs.DecimalLaws.{ended-length, line-short}
 use Rattle.gdb_listing.specs.Written.{Puts, puts-then}
 use Rattle.gdb_listing.specs.Rows.{rowsFrom, Listable}
 
@@ -60,7 +60,7 @@ frames-length : (f : Format) (xs : List Frame) → 6 * length xs ≤ length (fla
 frames-length f [] = omega arith
 frames-length f (x ∷ xs) = omega (arith, length-append (putFrame f x) (flat (putFrame f) xs), frame-length f x, frames-length f xs)
 
-lines-short : (f : Format) (size : Option ℕ) (xs : List Frame) (at : ℕ) → Each (FrameFits f size) xs → at + length (flat (putFrame f) xs) ≤ limit
+lines-short : (f : Format) (size : Option ℕ) (xs : List Frame) (at : ℕ) → Each (FrameFits f size) xs → at + length (flat (putFrame f) xs) ≤ listingLimit
     → length (flat lineOf (shown f at xs)) ≤ 18 * length xs
 lines-short f size [] at g h = omega arith
 lines-short f size (x ∷ xs) at g h =
@@ -83,13 +83,31 @@ module _ (f : Format) (b : List ℕ) (t : Trace) (i : File f b t) where
   pub frames-few : 6 * length (t .frames) ≤ length b
   frames-few = omega (arith, frames-length f (t .frames), file-length)
 
-  pub listable : length b ≤ limit → Listable f b (length (t .frames)) (length (opening (t .lines)))
+  pub listable : length b ≤ listingLimit → Listable f b (length (t .frames)) (length (opening (t .lines)))
   listable h =
       record {
         count = ap length rows-table ∙ shown-length f (length (opening (t .lines))) (t .frames);
         few = omega (arith, frames-few);
         short = rw rows-table (lines-short f (registerSize f (t .lines)) (t .frames) (length (opening (t .lines))) (i .fits .frames-fit) (omega (arith, file-length)));
       }
+
+-- how long a text is
+pub rows-length : (rows : List Row) → length (text (accepted rows)) ≡ 7 + length (decimal (length rows)) + 1 + length (flat lineOf rows)
+rows-length rows =
+    omega (
+      arith,
+      length-append framesWord (ended (length rows) 0x0A ++ flat lineOf rows),
+      length-append (ended (length rows) 0x0A) (flat lineOf rows),
+      ended-length (length rows) 0x0A,
+    )
+
+pub table-length : (f : Format) (s : List ℕ) (n at : ℕ) → Listable f s n at
+    → length (text (accepted (rowsFrom f s n at))) ≡ 7 + length (decimal n) + 1 + length (flat lineOf (rowsFrom f s n at))
+table-length f s n at i =
+    rows-length (rowsFrom f s n at) ∙ ap (λ k. 7 + length (decimal k) + 1 + length (flat lineOf (rowsFrom f s n at))) (i .count)
+
+pub refusal-length : (n : ℕ) → length (text (refused n)) ≡ 8 + length (decimal n) + 1
+refusal-length n = omega (arith, length-append refusedWord (ended n 0x0A), ended-length n 0x0A)
 
 -- the words and the lines, one after another
 pub puts-table : {out one two after : List ℕ} {a b r : ℕ} (f : Format) (s : List ℕ) (n at : ℕ) → Listable f s n at
@@ -100,38 +118,25 @@ puts-table {out} {one} {two} {after} {a} {b} f s n at i p q r =
 
 -- ---- what is listed
 
-pub listed-long : (s : Settings) (b : List ℕ) → limit < length b → refused tooLong ≡ listed s b
+pub listed-long : (b : List ℕ) → listingLimit < length b → refused tooLong ≡ listed b
 unfolding listed
-listed-long s b h = rw (lt-ltb limit (length b) h)
+listed-long b h = rw (lt-ltb listingLimit (length b) h)
 
-module _ (s : Settings) (b : List ℕ) (h : length b ≤ limit) where
-  listed-asked : listed s b ≡ asked s b wholeTable
+module _ (b : List ℕ) (h : length b ≤ listingLimit) where
+  listed-asked : listed b ≡ asked little b wholeTable
   unfolding listed
-  listed-asked = rw (le-ltb limit (length b) h)
+  listed-asked = rw (le-ltb listingLimit (length b) h)
 
-  pub listed-refused : (n : ℕ) → refused n ≡ readSeen (read s b) → refused n ≡ listed s b
-  listed-refused n e = asked-refused s b wholeTable n e ∙ sym listed-asked
+  pub listed-refused : (n : ℕ) → refused n ≡ readSeen (read little b) → refused n ≡ listed b
+  listed-refused n e = asked-refused little b wholeTable n e ∙ sym listed-asked
 
-  module _ (g : Bytes b) (m : Summary) (e : accepted m ≡ readSeen (read s b)) where
-    pub listed-rows : accepted (rowsFrom (m .format) b (m .frames) (m .start)) ≡ listed s b
+  module _ (g : Bytes b) (m : Summary) (e : accepted m ≡ readSeen (read little b)) where
+    pub listed-rows : accepted (rowsFrom (m .format) b (m .frames) (m .start)) ≡ listed b
     listed-rows =
-        told s b g m e (λ m. accepted (rowsFrom (m .format) b (m .frames) (m .start)) ≡ asked s b wholeTable) (λ f t r i. ap accepted (rows-table f b t i) ∙ rw r)
+        told little b g m e (λ m. accepted (rowsFrom (m .format) b (m .frames) (m .start)) ≡ asked little b wholeTable) (λ f t r i. ap accepted (rows-table f b t i) ∙ rw r)
         ∙ sym listed-asked
 
     pub listed-listable : Listable (m .format) b (m .frames) (m .start)
-    listed-listable = told s b g m e (λ m. Listable (m .format) b (m .frames) (m .start)) (λ f t r i. listable f b t i h)
+    listed-listable = told little b g m e (λ m. Listable (m .format) b (m .frames) (m .start)) (λ f t r i. listable f b t i h)
 
 -- 196,626 bytes have room for every listing: a frame takes at least 6 bytes of the file, so its line at most 3 for each of them
-module _ (s : Settings) (b : List ℕ) (g : Bytes b) where
-  room-asked : length b ≤ limit → (x : Answer (Format × Trace)) → read s b ≡ x → roomFor (next x (λ r. wholeTable (r .0) (r .1))) ≤ 196626
-  room-asked h (accepted (f, t)) e =
-      omega (arith, frames-few f b t (file-of s b f t g e), shown-length f (length (opening (t .lines))) (t .frames))
-  room-asked h (refused n) e = omega arith
-
-  pub room-enough : roomFor (listed s b) ≤ 196626
-  unfolding listed
-  room-enough = by (ltb limit (length b)) refl
-    where
-      by : (t : Bool) → ltb limit (length b) ≡ t → roomFor (cond t (refused tooLong) (asked s b wholeTable)) ≤ 196626
-      by true e = omega arith
-      by false e = room-asked (ltb-false limit (length b) e) (read s b) refl

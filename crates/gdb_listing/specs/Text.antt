@@ -1,13 +1,13 @@
 -- The listing of a trace as text, and what the listing's answer means.
 -- Assumes nothing: these are definitions.
 use mathlib.Core.Bool.{cond}
-use Prim.Native.Nat.{ℕ, zero, suc, _+_, _*_, _/_, _%_}
+use Prim.Native.Nat.{ℕ, zero, suc, _+_, _/_, _%_}
 use mathlib.Core.List.{List, [], _∷_, _++_}
-use lib.ListN.{length, drop}
-use lib.Dec.{leb, ltb}
+use lib.ListN.{length}
+use lib.Dec.{ltb}
 use Rattle.refusals.specs.Refusal.{tooLong, noRoom}
 use Rattle.fields.specs.Lists.{flat}
-use Rattle.fields.specs.Answer.{Answer, accepted, refused, next}
+use Rattle.fields.specs.Answer.{Answer, accepted, refused}
 use Rattle.gdb_format.specs.Trace.{Trace}
 use Rattle.gdb_format.specs.declared.Format.{Format}
 use Rattle.gdb_format.specs.declared.Settings.{Settings}
@@ -51,42 +51,26 @@ text (refused n) = refusedWord ++ ended n 0x0A
 -- ---- what is listed
 
 -- the program's own limit
-abbrev pub limit : ℕ
-limit = 65536
+abbrev pub listingLimit : ℕ
+listingLimit = 65536
+
+-- the listing is of a little-endian file
+abbrev pub little : Settings
+little = record { order = 0 }
 
 -- every frame of the table
 abbrev pub wholeTable : Format → Trace → Answer (List Row)
 wholeTable f t = accepted (table f t)
 
 -- the frame table of a file, or its refusal; 1 over the program's limit
-unfoldable pub listed : Settings → List ℕ → Answer (List Row)
-listed s b = cond (ltb limit (length b)) (refused tooLong) (asked s b wholeTable)
+unfoldable pub listed : List ℕ → Answer (List Row)
+listed b = cond (ltb listingLimit (length b)) (refused tooLong) (asked little b wholeTable)
 
--- the settings of a little-endian file
-abbrev pub little : Settings
-little = record { order = 0 }
+-- the listing of a file: always a text
+abbrev pub listingOf : List ℕ → Answer (List ℕ)
+listingOf b = accepted (text (listed b))
 
--- ---- the output
-
--- the room that a listing asks for: 18 bytes for its first line and for each frame
-abbrev pub roomFor : Answer (List Row) → ℕ
-roomFor (accepted rows) = 18 * (length rows + 1)
-roomFor (refused n) = 18
-
--- the bytes to write: the text, or 11 where the output is too short
-abbrev pub fitted : Answer (List Row) → List ℕ → Answer (List ℕ)
-fitted x out = cond (leb (roomFor x) (length out)) (accepted (text x)) (refused noRoom)
-
--- the number of bytes written
-abbrev pub answerTo : Answer (List ℕ) → Answer ℕ
-answerTo x = next x (λ w. accepted (length w))
-
--- the output at the end: what was written and then what stood there; unchanged on a refusal
-abbrev pub outAfter : Answer (List ℕ) → List ℕ → List ℕ
-outAfter (accepted w) out = w ++ drop (length w) out
-outAfter (refused n) out = out
-
--- what `ListingAnswer` says
+-- what `ListingAnswer` says: how long the text is, or 11
 abbrev pub listingAnswer : ListingAnswer → Answer ℕ
 listingAnswer (Written n) = accepted n
 listingAnswer NoRoom = refused noRoom

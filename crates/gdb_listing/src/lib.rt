@@ -5,10 +5,12 @@ ghost use Prim.Native.Nat.{_+_, _<_, _≤_};
 ghost use lib.ListN.{length};
 ghost use Rattle.fields.specs.Lists.{flat};
 ghost use Rattle.fields.specs.Answer.{accepted, refused};
+ghost use Rattle.fields.specs.Output.{Lent};
 ghost use Rattle.gdb_read.specs.Steps.{headMeaning};
-ghost use Rattle.gdb_listing.specs.Text.{decimal, ended, lineOf, listed, fitted, listingAnswer, answerTo, outAfter};
+ghost use Rattle.gdb_listing.specs.Text.{decimal, ended, lineOf, listingOf, listingAnswer};
 ghost use Rattle.gdb_listing.specs.Written.{Puts};
 ghost use Rattle.gdb_listing.specs.Rows.{rowsFrom, Listable};
+ghost use Rattle.gdb_listing.specs.Outcome.{Lists};
 use gdb_format::Format;
 use gdb_format::Settings;
 use gdb_read::FrameHead;
@@ -18,8 +20,6 @@ use refusals::TOO_LONG;
 
 // The longest file that is listed.
 const LIMIT: usize = 65536;
-// No line of a listing is longer, with its end.
-const LINE: usize = 18;
 
 // The number of bytes written, or that the output is too short.
 pub enum ListingAnswer {
@@ -110,11 +110,61 @@ fn put_lines(
     len
 }
 
-fn put_refusal(n: u8, out: &mut [u8]) -> ListingAnswer
-    ensures answer { λ r. ⌜ listingAnswer r ≡ answerTo (fitted (refused n) (now (out .entry))) ⌝ }
-    ensures output { λ r. ⌜ now (out .exit) ≡ outAfter (fitted (refused n) (now (out .entry))) (now (out .entry)) ⌝ }
+// How many digits a number has.
+fn digit_count(n: usize) -> usize
+    ensures { λ r. ⌜ (r ≡ length (decimal n)) × (r ≤ 20) ⌝ }
 {
-    if out.len() < LINE {
+    let mut rest = n;
+    let mut count: usize = 0;
+    while 10 <= rest {
+        rest = rest / 10;
+        count += 1;
+    }
+    count + 1
+}
+
+// How long a frame's line is: three numbers, each with the byte that ends it.
+fn line_length(head: FrameHead) -> usize
+    ensures { λ r. ⌜ r ≡ length (lineOf (headMeaning head)) ⌝ }
+{
+    let FrameHead {
+        tracepoint,
+        place,
+        size,
+    } = head;
+    digit_count(tracepoint as usize) + digit_count(place) + digit_count(size) + 3
+}
+
+// How long the lines of `frames` frames are, the first of which starts at `start`.
+fn lines_length(format: Format, file: &[u8], start: usize, frames: usize) -> usize
+    requires { ⌜ Listable format (now file) frames start ⌝ }
+    ensures { λ r. ⌜ r ≡ length (flat lineOf (rowsFrom format (now (file .entry)) frames start)) ⌝ }
+{
+    let mut at = start;
+    let mut rest = frames;
+    let mut len: usize = 0;
+    while 0 < rest {
+        match gdb_read::head_at(format, file, at) {
+            FrameStep::End => {
+                return len;
+            }
+            FrameStep::Refused(_) => {
+                return len;
+            }
+            FrameStep::Frame { head, next } => {
+                len += line_length(head);
+                at = next;
+                rest -= 1;
+            }
+        }
+    }
+    len
+}
+
+fn put_refusal(n: u8, out: &mut [u8]) -> ListingAnswer
+    ensures { λ r. ⌜ Lists (refused n) (now (out .entry)) r (now (out .exit)) ⌝ }
+{
+    if out.len() < 8 + digit_count(n as usize) + 1 {
         return ListingAnswer::NoRoom;
     }
     let a = bytes::copy(b"refused ", out);
@@ -129,10 +179,9 @@ fn put_table(
     out: &mut [u8],
 ) -> ListingAnswer
     requires { ⌜ Listable format (now file) frames start ⌝ }
-    ensures answer { λ r. ⌜ listingAnswer r ≡ answerTo (fitted (accepted (rowsFrom format (now (file .entry)) frames start)) (now (out .entry))) ⌝ }
-    ensures output { λ r. ⌜ now (out .exit) ≡ outAfter (fitted (accepted (rowsFrom format (now (file .entry)) frames start)) (now (out .entry))) (now (out .entry)) ⌝ }
+    ensures { λ r. ⌜ Lists (accepted (rowsFrom format (now (file .entry)) frames start)) (now (out .entry)) r (now (out .exit)) ⌝ }
 {
-    if out.len() < LINE * (frames + 1) {
+    if out.len() < 7 + digit_count(frames) + 1 + lines_length(format, file, start, frames) {
         return ListingAnswer::NoRoom;
     }
     let a = bytes::copy(b"frames ", out);
@@ -140,15 +189,14 @@ fn put_table(
     ListingAnswer::Written(put_lines(format, file, start, frames, out, b))
 }
 
-// Writes the listing of `file` to the front of `out`.
-pub fn listing(settings: Settings, file: &[u8], out: &mut [u8]) -> ListingAnswer
-    ensures answer { λ r. ⌜ listingAnswer r ≡ answerTo (fitted (listed settings (now (file .entry))) (now (out .entry))) ⌝ }
-    ensures output { λ r. ⌜ now (out .exit) ≡ outAfter (fitted (listed settings (now (file .entry))) (now (out .entry))) (now (out .entry)) ⌝ }
+// Writes the listing of a little-endian file to the front of `out`.
+pub fn listing(file: &[u8], out: &mut [u8]) -> ListingAnswer
+    ensures { λ r. ⌜ Lent (listingOf (now (file .entry))) (now (out .entry)) (listingAnswer r) (now (out .exit)) ⌝ }
 {
     if LIMIT < file.len() {
         return put_refusal(TOO_LONG, out);
     }
-    match gdb_read::read(settings, file) {
+    match gdb_read::read(Settings { order: 0 }, file) {
         Reading::Refused(n) => put_refusal(n, out),
         Reading::Accepted(o) => put_table(o.format, file, o.start, o.frames, out),
     }
