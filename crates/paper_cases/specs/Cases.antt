@@ -4,12 +4,12 @@ use mathlib.Core.Path.{_≡_, refl}
 use mathlib.Core.Bool.{true}
 use Prim.Native.Nat.{ℕ, _-_, _^_}
 use mathlib.Core.List.{List, [], _∷_, _++_}
-use lib.ListN.{take}
+use lib.ListN.{take, replicate}
 use lib.IntN.{ℤ, negsuc}
 use Rattle.refusals.specs.Refusal.{badHead, noEmptyLine, shortHead, badLetter, blockPastData, noRegisterSize, notFound}
 use Rattle.fields.specs.Lists.{Each}
 use Rattle.fields.specs.Answer.{Answer, accepted, refused, next}
-use Rattle.gdb_format.specs.Trace.{head, opening, encode}
+use Rattle.gdb_format.specs.Trace.{opening, encode}
 use Rattle.gdb_format.specs.Decode.{read}
 use Rattle.gdb_format.specs.declared.Settings.{Settings}
 use Rattle.gdb_read.specs.Steps.{Row}
@@ -17,6 +17,7 @@ use Rattle.gdb_frames.specs.Places.{part}
 use Rattle.gdb_frames.specs.Questions.{asked, table}
 use Rattle.gdb_blocks.specs.Search.{registersAt, memoryAt, variableAt}
 use Rattle.gdb_edit.specs.Cut.{cutOf}
+use Rattle.gdb_edit.specs.declared.Range.{Range}
 use Rattle.gdb_edit.specs.declared.Selection.{Selection}
 
 pub data Question : Type 0 where
@@ -61,9 +62,13 @@ big b q r = record { settings = record { order = 1 }; file = b; question = q; re
 abbrev row : ℕ → ℕ → ℕ → Row
 row n at k = record { tracepoint = n; place = at; size = k }
 
+-- H, in document 01's bytes
+abbrev h : List ℕ
+h = 0x7F ∷ 0x54 ∷ 0x52 ∷ 0x41 ∷ 0x43 ∷ 0x45 ∷ 0x30 ∷ 0x0A ∷ []
+
 -- H 0A, and then the frames
 abbrev bare : List ℕ → List ℕ
-bare b = head ++ 0x0A ∷ b
+bare b = h ++ 0x0A ∷ b
 
 -- frames of size 0 with the numbers 1 and 2
 abbrev empty1 : List ℕ
@@ -74,7 +79,7 @@ empty2 = 2 ∷ 0 ∷ 0 ∷ 0 ∷ 0 ∷ 0 ∷ []
 
 -- `R 2`
 abbrev two : List ℕ → List ℕ
-two b = head ++ 0x52 ∷ 0x20 ∷ 0x32 ∷ 0x0A ∷ 0x0A ∷ b
+two b = h ++ 0x52 ∷ 0x20 ∷ 0x32 ∷ 0x0A ∷ 0x0A ∷ b
 
 -- `M` at address 2 ^ 64 - 1, bytes 11 22
 abbrev top : List ℕ
@@ -84,14 +89,17 @@ top = bare (1 ∷ 0 ∷ 13 ∷ 0 ∷ 0 ∷ 0 ∷ 0x4D ∷ 0xFF ∷ 0xFF ∷ 0xFF
 abbrev minus : List ℕ
 minus = bare (1 ∷ 0 ∷ 13 ∷ 0 ∷ 0 ∷ 0 ∷ 0x56 ∷ 1 ∷ 0 ∷ 0 ∷ 0 ∷ 0xFF ∷ 0xFF ∷ 0xFF ∷ 0xFF ∷ 0xFF ∷ 0xFF ∷ 0xFF ∷ 0xFF ∷ [])
 
--- keep 1..1
+-- keep 1..1, as a caller makes it: eight ranges, of which the first is stated
+abbrev range : ℕ → ℕ → Range
+range a b = record { low = a; high = b }
+
 abbrev only1 : Selection
-only1 = record { ranges = record { low = 1; high = 1 } ∷ []; count = 1; keep = true }
+only1 = record { ranges = range 1 1 ∷ replicate 7 (range 0 0); count = 1; keep = true }
 
 abbrev pub cases : List Case
 cases =
     little [] frames (refused badHead)
-    ∷ little head frames (refused noEmptyLine)
+    ∷ little h frames (refused noEmptyLine)
     ∷ little (bare []) frames (accepted (rows []))
     ∷ little (bare empty1) frames (accepted (rows (row 1 15 0 ∷ [])))
     ∷ big (bare empty1) frames (accepted (rows (row 256 15 0 ∷ [])))
