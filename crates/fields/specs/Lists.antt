@@ -6,9 +6,9 @@ use mathlib.Core.Logic.{_⊎_}
 use Prim.Native.Nat.{ℕ, _+_, _-_, _<_, _≤_}
 use native.Mathlib.Numerals.{add-one}
 use native.Mathlib.Omega.{arith}
-use mathlib.Core.List.{List, [], _∷_, _++_}
-use lib.ListN.{length, take, drop, getD, length-take, length-drop, length-append}
-use lib.Seq.{drop-cons, drop-drop, take-add, take-at, drop-at, length-take-le}
+use mathlib.Core.List.{List, [], _∷_, _++_, append-assoc}
+use lib.ListN.{length, take, drop, getD, length-take, length-drop, length-append, take-append-drop}
+use lib.Seq.{drop-cons, drop-drop, take-add, take-at, drop-at, length-take-le, take-append-le, drop-append-le}
 
 -- the bytes of all elements, one after another
 abbrev pub flat : {A : Type 0} → (A → List ℕ) → List A → List ℕ
@@ -66,6 +66,10 @@ pub nil-of-length : {A : Type 0} (l : List A) → length l ≡ 0 → l ≡ []
 nil-of-length [] h = refl
 nil-of-length (x ∷ l) h = absurd (omega arith)
 
+-- two fields and data, which rest follows
+pub regroup : (a b d rest : List ℕ) → (a ++ b) ++ (d ++ rest) ≡ (a ++ (b ++ d)) ++ rest
+regroup a b d rest = simp append-assoc
+
 -- a part of a list: its length, and that it is the end of a front of the list
 module _ (s : List ℕ) (at n : ℕ) (h : at + n ≤ length s) where
   pub length-part : length (take n (drop at s)) ≡ n
@@ -76,10 +80,19 @@ module _ (s : List ℕ) (at n : ℕ) (h : at + n ≤ length s) where
 
 -- what stands at a place of a list: d, after a, where a and d begin what is left at `at`
 module _ (s : List ℕ) (at : ℕ) (a d rest : List ℕ) (e : a ++ (d ++ rest) ≡ drop at s) where
+  pub part-behind : drop (at + length a) s ≡ d ++ rest
+  part-behind = sym (drop-drop (length a) at s) ∙ ap (drop (length a)) (sym e) ∙ drop-at a (d ++ rest) (length a) refl
+
   pub part-there : take (length d) (drop (at + length a) s) ≡ d
-  part-there =
-      let f : drop (at + length a) s ≡ d ++ rest = sym (drop-drop (length a) at s) ∙ ap (drop (length a)) (sym e) ∙ drop-at a (d ++ rest) (length a) refl in
-      rw f (take-at d rest (length d) refl)
+  part-there = rw part-behind (take-at d rest (length d) refl)
 
   pub part-lengths : length a + (length d + length rest) ≡ length s - at
   part-lengths = omega (arith, length-append a (d ++ rest), length-append d rest, ap length e, length-drop at s)
+
+-- where d stands at a place, each piece of d stands as far behind it as in d
+pub piece-there : (s d : List ℕ) (at i n : ℕ) → take (length d) (drop at s) ≡ d → i + n ≤ length d → take n (drop (at + i) s) ≡ take n (drop i d)
+piece-there s d at i n e h =
+    let r : List ℕ = drop (length d) (drop at s) in
+    let f : d ++ r ≡ drop at s = ap (λ l. l ++ r) (sym e) ∙ take-append-drop (length d) (drop at s) in
+    let k : n ≤ length (drop i d) = omega (arith, length-drop i d) in
+    ap (take n) (sym (drop-drop i at s) ∙ ap (drop i) (sym f) ∙ drop-append-le i d r (omega arith)) ∙ take-append-le n (drop i d) r k

@@ -18,6 +18,7 @@ use Rattle.gdb_format.specs.Decode.{decode}
 use Rattle.gdb_format.specs.declared.Format.{Format}
 use Rattle.gdb_frames.specs.Places.{nth}
 use Rattle.gdb_frames.specs.File.{File}
+use Rattle.gdb_frames.specs.PlaceLaws.{each-nth}
 use Rattle.gdb_edit.specs.Selection.{Selection, selects, picks, opposite}
 use Rattle.gdb_edit.specs.Cut.{sift, cut}
 use Rattle.gdb_edit.specs.CutLaws.{picks-other, decode-file}
@@ -70,12 +71,6 @@ module _ {A B : Type 0} (g : A → B) where
   nth-some [] n h = absurd (omega arith)
   nth-some (x ∷ l) zero h = (x, refl)
   nth-some (x ∷ l) (suc n) h = nth-some l n (omega arith)
-
-module _ {A : Type 0} (P : A → Type 0) where
-  each-nth : (l : List A) (n : ℕ) (x : A) → Each P l → nth l n ≡ accepted x → P x
-  each-nth [] n x h e = never e
-  each-nth (y ∷ l) zero x h e = subst P (accepted-one e) (h .0)
-  each-nth (y ∷ l) (suc n) x h e = each-nth l n x (h .1) e
 
 module _ {A : Type 0} (p : A → Bool) where
   -- element n, where it is kept, is element k of what is kept, k being the number kept before it

@@ -1,15 +1,15 @@
 -- What stands at the place that an answer names: the element's own bytes, within the file.
 -- Assumes nothing.
-use mathlib.Core.Path.{_≡_, refl, sym, ap, _∙_}
+use mathlib.Core.Path.{_≡_, refl, sym, ap, _∙_, subst}
 use Prim.Native.Nat.{ℕ, zero, suc, _+_, _≤_}
 use native.Mathlib.Omega.{arith}
 use mathlib.Core.List.{List, [], _∷_, _++_, append-assoc, append-nil}
 use lib.ListN.{length, take, drop, length-append, length-drop}
-use lib.Seq.{drop-drop, drop-at, take-at}
+use lib.Seq.{take-at}
 use borrow.Author.Tests.{le-leb}
-use Rattle.fields.specs.Lists.{flat, length-part, part-front, part-there, part-lengths}
+use Rattle.fields.specs.Lists.{flat, Each, regroup, length-part, part-front, part-behind, part-there, part-lengths}
 use Rattle.fields.specs.Number.{Bytes, field, length-field}
-use Rattle.fields.specs.Answer.{Answer, accepted, refused, never, next-inv, accepted-one, accepted-inj}
+use Rattle.fields.specs.Answer.{Answer, accepted, refused, next, never, next-inv, next-assoc, accepted-one, accepted-inj}
 use Rattle.gdb_format.specs.Trace.{Frame, Trace, putLine, putFrame, dataOf, opening}
 use Rattle.gdb_format.specs.Decode.{read}
 use Rattle.gdb_format.specs.declared.Settings.{Settings}
@@ -30,10 +30,28 @@ placed-there put s zero (y ∷ xs) rest at a x e g =
     let i = accepted-inj g in
     (flat put xs ++ rest, rw (← i .0, ← i .1) (e ∙ append-assoc (put y) (flat put xs) rest), omega (arith, i .0))
 placed-there put s (suc n) (y ∷ xs) rest at a x e g =
-    let f : drop (at + length (put y)) s ≡ flat put xs ++ rest =
-    sym (drop-drop (length (put y)) at s) ∙ ap (drop (length (put y))) (e ∙ append-assoc (put y) (flat put xs) rest) ∙ drop-at (put y) (flat put xs ++ rest) (length (put y)) refl in
+    let f = part-behind s at (put y) (flat put xs) rest (sym (e ∙ append-assoc (put y) (flat put xs) rest)) in
     let q = placed-there put s n xs rest (at + length (put y)) a x f g in
     (q .0, q .1, omega (arith, q .2))
+
+-- its place aside, it is element n of the list
+pub placed-nth : {A : Type 0} (put : A → List ℕ) (xs : List A) (at n : ℕ) → next (nth (placed put at xs) n) (λ r. accepted (r .1)) ≡ nth xs n
+placed-nth put [] at n = refl
+placed-nth put (x ∷ xs) at zero = refl
+placed-nth put (x ∷ xs) at (suc n) = placed-nth put xs (at + length (put x)) n
+
+pub placed-is : {A : Type 0} (put : A → List ℕ) (xs : List A) (at n a : ℕ) (x : A) → nth (placed put at xs) n ≡ accepted (a, x) → nth xs n ≡ accepted x
+placed-is put xs at n a x e = sym (placed-nth put xs at n) ∙ ap (λ y. next y (λ r. accepted (r .1))) e
+
+pub placed-then : {A B : Type 0} (put : A → List ℕ) (xs : List A) (at n : ℕ) (q : A → Answer B)
+    → next (nth (placed put at xs) n) (λ r. q (r .1)) ≡ next (nth xs n) q
+placed-then put xs at n q = sym (next-assoc (nth (placed put at xs) n) (λ r. accepted (r .1)) q) ∙ ap (λ x. next x q) (placed-nth put xs at n)
+
+-- what holds of each element holds of element n
+pub each-nth : {A : Type 0} (F : A → Type 0) (xs : List A) (n : ℕ) (x : A) → Each F xs → nth xs n ≡ accepted x → F x
+each-nth F [] n x h e = never e
+each-nth F (y ∷ xs) zero x h e = subst F (accepted-one e) (h .0)
+each-nth F (y ∷ xs) (suc n) x h e = each-nth F xs n x (h .1) e
 
 -- ---- parts that lie in the file
 
@@ -54,13 +72,9 @@ handed b r (accepted q) i e =
 module _ (f : Format) (b : List ℕ) (t : Trace) (i : File f b t) (n a : ℕ) (r : Frame) (g : nth (framesAt f t) n ≡ accepted (a, r)) where
   frame-there : (rest : List ℕ) × ((field (f .order) 2 (r .tracepoint) ++ field (f .order) 4 (length (dataOf f r))) ++ (dataOf f r ++ rest) ≡ drop a b)
   frame-there =
-      let q = placed-there (putFrame f) b n (t .frames) [] (length (opening (t .lines))) a r (frames-behind f b t i ∙ sym (append-nil (flat (putFrame f) (t .frames)))) g in (
-        q .0,
-        append-assoc (field (f .order) 2 (r .tracepoint)) (field (f .order) 4 (length (dataOf f r))) (dataOf f r ++ q .0)
-            ∙ ap (λ l. field (f .order) 2 (r .tracepoint) ++ l) (sym (append-assoc (field (f .order) 4 (length (dataOf f r))) (dataOf f r) (q .0)))
-            ∙ sym (append-assoc (field (f .order) 2 (r .tracepoint)) (field (f .order) 4 (length (dataOf f r)) ++ dataOf f r) (q .0))
-            ∙ sym (q .1),
-      )
+      let e = frames-behind f b t i ∙ sym (append-nil (flat (putFrame f) (t .frames))) in
+      let q = placed-there (putFrame f) b n (t .frames) [] (length (opening (t .lines))) a r e g in
+      (q .0, regroup (field (f .order) 2 (r .tracepoint)) (field (f .order) 4 (length (dataOf f r))) (dataOf f r) (q .0) ∙ sym (q .1))
 
   head-long : length (field (f .order) 2 (r .tracepoint) ++ field (f .order) 4 (length (dataOf f r))) ≡ 6
   head-long =
@@ -70,6 +84,12 @@ module _ (f : Format) (b : List ℕ) (t : Trace) (i : File f b t) (n a : ℕ) (r
         length-field (f .order) 2 (r .tracepoint),
         length-field (f .order) 4 (length (dataOf f r)),
       )
+
+  -- the data, and what follows them
+  pub data-behind : (rest : List ℕ) × (drop (a + 6) b ≡ dataOf f r ++ rest)
+  data-behind =
+      let h : List ℕ = field (f .order) 2 (r .tracepoint) ++ field (f .order) 4 (length (dataOf f r)) in
+      (frame-there .0, rw head-long at (part-behind b a h (dataOf f r) (frame-there .0) (frame-there .1)))
 
   pub frame-within : a + 6 + length (dataOf f r) ≤ length b
   frame-within =

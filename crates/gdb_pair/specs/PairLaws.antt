@@ -1,32 +1,32 @@
 -- A pair answers as the join does: the part of frame n, and the value of a variable in it.
 -- Assumes nothing.
-use mathlib.Core.Path.{_≡_, refl, sym, ap, ap₂, _∙_, subst}
+use mathlib.Core.Path.{_≡_, refl, sym, ap, _∙_, subst}
 use mathlib.Core.Bool.{Bool, true, false, cond}
 use Prim.Native.Nat.{ℕ, zero, suc, _+_, _-_, _<_, _≤_}
 use native.Mathlib.Omega.{arith}
 use mathlib.Core.List.{List, [], _∷_, _++_}
 use lib.ListN.{length, take, drop}
-use lib.IntN.{ℤ}
 use lib.Dec.{ltb}
 use borrow.Author.Tests.{ltb-true, ltb-false, lt-ltb, le-ltb}
 use Rattle.fields.specs.Lists.{part-front}
 use Rattle.fields.specs.Number.{Bytes}
 use Rattle.fields.specs.Answer.{Answer, accepted, refused, next, next-inv, never, accepted-one}
-use Rattle.gdb_format.specs.Trace.{Block, Frame, Trace, opening, putBlock, putFrame, dataOf}
-use Rattle.gdb_format.specs.Trace as trace
+use Rattle.gdb_format.specs.Trace.{Frame, Trace, opening, putFrame, dataOf}
 use Rattle.gdb_format.specs.Settings.{settingsOf}
 use Rattle.gdb_format.specs.Decode.{read}
 use Rattle.gdb_format.specs.Exactness.{read-exactness}
 use Rattle.gdb_format.specs.declared.Settings.{Settings}
 use Rattle.gdb_format.specs.declared.Format.{Format}
 use Rattle.gdb_read.specs.Steps.{Summary, summaryOf, frameSeen}
-use Rattle.gdb_frames.specs.Places.{placed, framesAt, blocksAt, nth, part, partNamed}
+use Rattle.gdb_frames.specs.Places.{framesAt, nth, part, partNamed}
 use Rattle.gdb_frames.specs.Questions.{asked, dataIn, frameData}
 use Rattle.gdb_frames.specs.Nth.{nthHead, shownNth}
 use Rattle.gdb_frames.specs.File.{File}
-use Rattle.gdb_frames.specs.PlaceLaws.{InFile, handed, frame-within, data-there}
+use Rattle.gdb_frames.specs.PlaceLaws.{placed-nth, placed-is, InFile, handed, frame-within, data-there}
 use Rattle.gdb_frames.specs.Located.{head-nth, shown-none}
-use Rattle.gdb_blocks.specs.Search.{orLater, valueIn, variableOf, variableAt}
+use Rattle.gdb_blocks.specs.Search.{earliest, variableAt}
+use Rattle.gdb_blocks.specs.Held.{valueOf, heldIn}
+use Rattle.gdb_blocks.specs.ShownLaws.{value-held}
 use Rattle.gdb_edit.specs.Cut.{join, joinOf}
 use Rattle.gdb_edit.specs.Joined.{pairSeen}
 use Rattle.gdb_edit.specs.CutLaws.{layout-join, holds, read-file, same-bytes, same-lines}
@@ -94,11 +94,6 @@ abbrev pub frameBytes : Format → Answer Frame → List ℕ
 frameBytes f (accepted r) = dataOf f r
 frameBytes f (refused n) = []
 
-nth-placed : {A : Type 0} (put : A → List ℕ) (xs : List A) (at n : ℕ) → next (nth (placed put at xs) n) (λ r. accepted (r .1)) ≡ nth xs n
-nth-placed put [] at n = refl
-nth-placed put (x ∷ xs) at zero = refl
-nth-placed put (x ∷ xs) at (suc n) = nth-placed put xs (at + length (put x)) n
-
 abbrev placeOf : Format → Answer (ℕ × Frame) → Answer (ℕ × ℕ)
 placeOf f x = next (next x (λ r. accepted (frameSeen f (r .0) (r .1)))) (λ v. accepted (dataIn v))
 
@@ -109,10 +104,11 @@ frame-part f b t n i = by (nth (framesAt f t) n) refl
     by (accepted r) e =
         let w = frame-within f b t i n (r .0) (r .1) e in
         let d : take (length (dataOf f (r .1))) (drop (r .0 + 6) b) ≡ dataOf f (r .1) = sym (part-front b (r .0 + 6) (length (dataOf f (r .1))) w) ∙ data-there f b t i n (r .0) (r .1) e in
-        let x : nth (t .frames) n ≡ accepted (r .1) = sym (nth-placed (putFrame f) (t .frames) (length (opening (t .lines))) n) ∙ ap (λ y. next y (λ r. accepted (r .1))) e in
+        let x = placed-is (putFrame f) (t .frames) (length (opening (t .lines))) n (r .0) (r .1) e in
         (d ∙ sym (ap (frameBytes f) x), λ y z. let q = accepted-one z in omega (arith, w, ap (λ (z : ℕ × ℕ). z .0) q, ap (λ (z : ℕ × ℕ). z .1) q))
     by (refused j) e =
-        let x : nth (t .frames) n ≡ refused j = sym (nth-placed (putFrame f) (t .frames) (length (opening (t .lines))) n) ∙ ap (λ y. next y (λ r. accepted (r .1))) e in
+        let i = placed-nth (putFrame f) (t .frames) (length (opening (t .lines))) n in
+        let x : nth (t .frames) n ≡ refused j = sym i ∙ ap (λ y. next y (λ r. accepted (r .1))) e in
         (sym (ap (frameBytes f) x), λ y z. never z)
 
 module _ {A : Type 0} where
@@ -203,39 +199,20 @@ handed-second s a b r n q ha hb e g =
 
 -- ---- variables
 
--- where a block stands does not matter for a variable's value
-value-anywhere : (f : Format) (v : ℕ) (bs : List Block) (i j : ℕ) → variableOf v (placed (putBlock f) i bs) ≡ variableOf v (placed (putBlock f) j bs)
-value-anywhere f v [] i j = refl
-value-anywhere f v (b ∷ bs) i j = ap₂ orLater (same b) (value-anywhere f v bs (i + length (putBlock f b)) (j + length (putBlock f b)))
-  where
-    same : (b : Block) → valueIn v (i, b) ≡ valueIn v (j, b)
-    same (trace.registers x) = refl
-    same (trace.memory x y) = refl
-    same (trace.variable x y) = refl
-
-abbrev valueOf : Format → ℕ → Frame → Answer ℤ
-valueOf f v r = variableOf v (placed (putBlock f) 0 (r .blocks))
-
-variable-is : (f : Format) (t : Trace) (v n : ℕ) → variableAt v n f t ≡ next (nth (t .frames) n) (valueOf f v)
-variable-is f t v n =
-    by (nth (framesAt f t) n) ∙ ap (λ x. next x (valueOf f v)) (nth-placed (putFrame f) (t .frames) (length (opening (t .lines))) n)
-  where
-    by : (x : Answer (ℕ × Frame)) → next x (λ r. variableOf v (blocksAt f (r .0) (r .1))) ≡ next (next x (λ r. accepted (r .1))) (valueOf f v)
-    by (accepted r) = value-anywhere f v (r .1 .blocks) (r .0 + 6) 0
-    by (refused k) = refl
-
 module _ (s : Settings) (a b c : List ℕ) (f : Format) (t u : Trace) (i : Joined s a b c f t u) (n v : ℕ) where
-  variable-join : pairVariable s a b n v ≡ next (nth (t .frames ++ u .frames) n) (valueOf f v)
+  variable-join : pairVariable s a b n v ≡ heldIn (valueOf v) n f (join t u)
   unfolding pairVariable
-  variable-join = rw (i .gives, i .join-read) (variable-is f (join t u) v n)
+  variable-join = rw (i .gives, i .join-read) (value-held f c (join t u) n (i .join-file) v)
 
   pub variable-first : n < length (t .frames) → asked s a (variableAt v n) ≡ pairVariable s a b n v
   variable-first h =
-      rw (i .both .first-read) (variable-is f t v n) ∙ ap (λ x. next x (valueOf f v)) (sym (nth-first (t .frames) (u .frames) n h)) ∙ sym variable-join
+      rw (i .both .first-read) (value-held f a t n (i .both .first-file) v)
+      ∙ ap (λ x. next x (λ r. earliest (valueOf v) (r .blocks))) (sym (nth-first (t .frames) (u .frames) n h)) ∙ sym variable-join
 
   pub variable-second : length (t .frames) ≤ n → asked s b (variableAt v (n - length (t .frames))) ≡ pairVariable s a b n v
   variable-second h =
-      rw (i .both .second-read) (variable-is f u v (n - length (t .frames))) ∙ ap (λ x. next x (valueOf f v)) (sym (nth-second (t .frames) (u .frames) n h)) ∙ sym variable-join
+      rw (i .both .second-read) (value-held f b u (n - length (t .frames)) (i .both .second-file) v)
+      ∙ ap (λ x. next x (λ r. earliest (valueOf v) (r .blocks))) (sym (nth-second (t .frames) (u .frames) n h)) ∙ sym variable-join
 
 pub variable-refused : (s : Settings) (a b : List ℕ) (n v k : ℕ) → joinOf s a b ≡ refused k → refused k ≡ pairVariable s a b n v
 unfolding pairVariable

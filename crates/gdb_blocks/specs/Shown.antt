@@ -1,0 +1,184 @@
+-- What is answered about blocks is what the trace holds (Held.antt). At the place and of the length that are answered stand the block's own bytes, none of them
+-- early or late; at the place of a block's record stands the block. So it is for every file, frame and address, and for all settings: in both byte orders.
+-- Assumes nothing.
+use mathlib.Core.Path.{_≡_, refl, sym, ap, _∙_}
+use mathlib.Core.Logic.{_↔_}
+use mathlib.Core.Option.{Option, some}
+use Prim.Native.Nat.{ℕ, _+_, _≤_}
+use native.Mathlib.Omega.{arith}
+use mathlib.Core.List.{List, _++_}
+use lib.ListN.{length, take, drop}
+use lib.Seq.{take-at}
+use Rattle.refusals.specs.Refusal.{notFound}
+use Rattle.fields.specs.Lists.{clash, piece-there}
+use Rattle.fields.specs.Number.{Bytes}
+use Rattle.fields.specs.Answer.{Answer, accepted, refused, next, next-inv, accepted-inj}
+use Rattle.gdb_format.specs.Trace.{Block, registers, memory, variable, Frame, Trace, opening, putBlock, putFrame}
+use Rattle.gdb_format.specs.Lines.{registerSize}
+use Rattle.gdb_format.specs.Layout.{BlockFits, FrameFits}
+use Rattle.gdb_format.specs.Decode.{read}
+use Rattle.gdb_format.specs.declared.Settings.{Settings}
+use Rattle.gdb_format.specs.declared.Format.{Format}
+use Rattle.gdb_read.specs.Steps.{Carried, carriedBy}
+use Rattle.gdb_frames.specs.Places.{framesAt, blocksAt, nth}
+use Rattle.gdb_frames.specs.Questions.{asked, Handed}
+use Rattle.gdb_frames.specs.File.{file-of}
+use Rattle.gdb_frames.specs.PlaceLaws.{placed-there, placed-is, each-nth, data-behind}
+use Rattle.gdb_blocks.specs.Search.{registersIn, memoryIn, blockAt, registersAt, memoryAt, variableAt}
+use Rattle.gdb_blocks.specs.Earliest.{Earliest, earliest-is, earliest-nth}
+use Rattle.gdb_blocks.specs.Held.{registersOf, memoryOf, valueOf, heldIn, Missing, blockHeld, mapped, named, withLength, orEmpty}
+use Rattle.gdb_blocks.specs.ShownLaws.{registers-named, registers-there, memory-named, memory-there, value-held, named-held, block-held, held-missing}
+use Rattle.gdb_blocks.specs.ShownLaws.{asked-same, asked-mapped, refused-alike, part-same}
+
+-- ---- an answer and what the trace holds are one, refusals too
+
+module _ (s : Settings) (b : List ℕ) (h : Bytes b) (n : ℕ) where
+  -- the registers of frame n: the bytes of its earliest `R` block
+  pub registers-shown : mapped (named b) (asked s b (registersAt n)) ≡ mapped withLength (asked s b (heldIn registersOf n))
+  registers-shown =
+      asked-mapped s b h (registersAt n) (heldIn registersOf n) (named b) withLength
+      (λ f t i. named-held f b t n i registersIn registersOf (registers-named f b))
+
+  -- memory at address a: the bytes of the earliest covering block from a to its end
+  pub memory-shown : (a : ℕ) → mapped (named b) (asked s b (memoryAt a n)) ≡ mapped withLength (asked s b (heldIn (memoryOf a) n))
+  memory-shown a =
+      asked-mapped s b h (memoryAt a n) (heldIn (memoryOf a) n) (named b) withLength
+      (λ f t i. named-held f b t n i (memoryIn a) (memoryOf a) (memory-named f b a))
+
+  -- variable v: the value in the earliest `V` block with that number
+  pub variable-shown : (v : ℕ) → asked s b (variableAt v n) ≡ asked s b (heldIn (valueOf v) n)
+  variable-shown v = asked-same s b h (variableAt v n) (heldIn (valueOf v) n) (λ f t i. value-held f b t n i v)
+
+  -- block k: its kind, with what that kind carries
+  pub kind-shown : (k : ℕ) → mapped (λ r. r .1) (asked s b (blockAt n k)) ≡ mapped carriedBy (asked s b (blockHeld n k))
+  kind-shown k = asked-mapped s b h (blockAt n k) (blockHeld n k) (λ r. r .1) carriedBy (λ f t i. block-held f t n k)
+
+  -- ---- the parts that are handed back
+
+  pub registers-handed : (r : List ℕ) → Handed b (asked s b (registersAt n)) r → r ≡ orEmpty (asked s b (heldIn registersOf n))
+  registers-handed r q = q .is-part ∙ part-same b (asked s b (registersAt n)) (asked s b (heldIn registersOf n)) registers-shown
+
+  pub memory-handed : (a : ℕ) (r : List ℕ) → Handed b (asked s b (memoryAt a n)) r → r ≡ orEmpty (asked s b (heldIn (memoryOf a) n))
+  memory-handed a r q = q .is-part ∙ part-same b (asked s b (memoryAt a n)) (asked s b (heldIn (memoryOf a) n)) (memory-shown a)
+
+-- ---- where a place and a length are answered
+
+-- the k bytes from p on are those that `g` finds in the earliest block of frame n of the trace that was read
+pub record BytesShown (s : Settings) (b : List ℕ) (n : ℕ) (g : Block → Option (List ℕ)) (p k : ℕ) : Type 0 where
+  pub format : Format
+  pub trace : Trace
+  pub frame : Frame
+  pub bytes : List ℕ
+  pub was-read : read s b ≡ accepted (format, trace)
+  pub is-frame : nth (trace .frames) n ≡ accepted frame
+  pub is-earliest : Earliest g (frame .blocks) bytes
+  pub are-there : take k (drop p b) ≡ bytes
+  pub are-all : length bytes ≡ k
+
+shows : (s : Settings) (b : List ℕ) (n : ℕ) (g : Block → Option (List ℕ)) (p k : ℕ) (x : Answer (ℕ × ℕ))
+    → mapped (named b) x ≡ mapped withLength (asked s b (heldIn g n)) → x ≡ accepted (p, k) → BytesShown s b n g p k
+shows s b n g p k x e i =
+    let u = next-inv (asked s b (heldIn g n)) (λ d. accepted (withLength d)) (sym e ∙ ap (mapped (named b)) i) in
+    let v = next-inv (read s b) (λ r. heldIn g n (r .0) (r .1)) (u .1) in
+    let w = next-inv (nth (v .0 .1 .frames) n) _ (v .2) in
+    let j = accepted-inj (u .2) in
+    record {
+      format = v .0 .0;
+      trace = v .0 .1;
+      frame = w .0;
+      bytes = u .0;
+      was-read = v .1;
+      is-frame = w .1;
+      is-earliest = (earliest-is g (w .0 .blocks) (u .0)) .0 (w .2);
+      are-there = sym (j .1);
+      are-all = j .0;
+    }
+
+module _ (s : Settings) (b : List ℕ) (h : Bytes b) (n p k : ℕ) where
+  pub registers-stand : asked s b (registersAt n) ≡ accepted (p, k) → BytesShown s b n registersOf p k
+  registers-stand = shows s b n registersOf p k (asked s b (registersAt n)) (registers-shown s b h n)
+
+  pub memory-stand : (a : ℕ) → asked s b (memoryAt a n) ≡ accepted (p, k) → BytesShown s b n (memoryOf a) p k
+  memory-stand a = shows s b n (memoryOf a) p k (asked s b (memoryAt a n)) (memory-shown s b h n a)
+
+-- m bytes from byte i of these bytes on. In a register block of 776 bytes, 33 words of 8 and then v0 to v31, v0 is the 16 bytes from byte 264 on.
+pub piece-shown : {s : Settings} {b : List ℕ} {n : ℕ} {g : Block → Option (List ℕ)} {p k : ℕ} (q : BytesShown s b n g p k) (i m : ℕ) → i + m ≤ k
+    → take m (drop (p + i) b) ≡ take m (drop i (q .bytes))
+piece-shown {s} {b} {n} {g} {p} {k} q i m h =
+    piece-there b (q .bytes) p i m (ap (λ l. take l (drop p b)) (q .are-all) ∙ q .are-there) (omega (arith, q .are-all))
+
+-- the registers are as many bytes as the R line says
+pub registers-said : {s : Settings} {b : List ℕ} {n p k : ℕ} → Bytes b → (q : BytesShown s b n registersOf p k)
+    → registerSize (q .format) (q .trace .lines) ≡ some k
+registers-said {s} {b} {n} h q =
+    let size = registerSize (q .format) (q .trace .lines) in
+    let i = file-of s b (q .format) (q .trace) h (q .was-read) in
+    let r = each-nth (FrameFits (q .format) size) (q .trace .frames) n (q .frame) (i .fits .frames-fit) (q .is-frame) in
+    let l = q .is-earliest in
+    let w = each-nth (BlockFits size) (q .frame .blocks) (length (l .before)) (l .element) (r .2) (earliest-nth registersOf (q .frame .blocks) (q .bytes) l) in
+    fits-size size (l .element) (q .bytes) w (l .finds) ∙ ap some (q .are-all)
+  where
+    fits-size : (size : Option ℕ) (x : Block) (d : List ℕ) → BlockFits size x → registersOf x ≡ some d → size ≡ some (length d)
+    fits-size size (registers c) d w e = let i : c ≡ d = cc in w ∙ ap (λ l. some (length l)) i
+    fits-size size (memory a c) d w e = clash (cc)
+    fits-size size (variable m z) d w e = clash (cc)
+
+-- ---- 12 exactly where the frame has no such block, or is not there
+
+module _ (s : Settings) (b : List ℕ) (h : Bytes b) (n : ℕ) (f : Format) (t : Trace) (e : read s b ≡ accepted (f, t)) where
+  missing : {A B C : Type 0} (g : Block → Option B) (x : Answer A) (j : A → C) (k : B → C)
+      → mapped j x ≡ mapped k (asked s b (heldIn g n)) → (x ≡ refused notFound) ↔ Missing g n t
+  missing g x j k i =
+      let r : asked s b (heldIn g n) ≡ heldIn g n f t = ap (λ y. next y (λ r. heldIn g n (r .0) (r .1))) e in
+      let q = refused-alike j k x (asked s b (heldIn g n)) notFound i in
+      let m = held-missing g n f t in
+      ((λ z. m .0 (sym r ∙ q .0 z)), (λ z. q .1 (r ∙ m .1 z)))
+
+  pub registers-missing : (asked s b (registersAt n) ≡ refused notFound) ↔ Missing registersOf n t
+  registers-missing = missing registersOf (asked s b (registersAt n)) (named b) withLength (registers-shown s b h n)
+
+  pub memory-missing : (a : ℕ) → (asked s b (memoryAt a n) ≡ refused notFound) ↔ Missing (memoryOf a) n t
+  memory-missing a = missing (memoryOf a) (asked s b (memoryAt a n)) (named b) withLength (memory-shown s b h n a)
+
+  pub variable-missing : (v : ℕ) → (asked s b (variableAt v n) ≡ refused notFound) ↔ Missing (valueOf v) n t
+  variable-missing v = missing (valueOf v) (asked s b (variableAt v n)) (λ x. x) (λ x. x) (ap (mapped (λ x. x)) (variable-shown s b h n v))
+
+-- ---- at the place of a block's record stands the block
+
+-- block k of frame n of the trace that was read: its letter at p, and behind it its bytes
+pub record BlockStands (s : Settings) (b : List ℕ) (n k p : ℕ) (c : Carried) : Type 0 where
+  pub format : Format
+  pub trace : Trace
+  pub block : Block
+  pub was-read : read s b ≡ accepted (format, trace)
+  pub is-block : blockHeld n k format trace ≡ accepted block
+  pub is-kind : carriedBy block ≡ c
+  pub is-there : take (length (putBlock format block)) (drop p b) ≡ putBlock format block
+  pub registers-behind : (d : List ℕ) → block ≡ registers d → take (length d) (drop (p + 1) b) ≡ d
+  pub memory-behind : (a : ℕ) (d : List ℕ) → block ≡ memory a d → take (length d) (drop (p + 11) b) ≡ d
+
+pub block-stands : (s : Settings) (b : List ℕ) (n k p : ℕ) (c : Carried) → Bytes b → asked s b (blockAt n k) ≡ accepted (p, c) → BlockStands s b n k p c
+block-stands s b n k p c h e =
+    let u = next-inv (read s b) (λ r. blockAt n k (r .0) (r .1)) e in
+    let v = next-inv (nth (framesAt (u .0 .0) (u .0 .1)) n) _ (u .2) in
+    let w = next-inv (nth (blocksAt (u .0 .0) (v .0 .0) (v .0 .1)) k) _ (v .2) in
+    standing (u .0 .0) (u .0 .1) (v .0 .0) (v .0 .1) (w .0 .0) (w .0 .1) (u .1) (v .1) (w .1) (accepted-inj (w .2))
+  where
+    standing : (f : Format) (t : Trace) (a : ℕ) (r : Frame) (m : ℕ) (x : Block) → read s b ≡ accepted (f, t) → nth (framesAt f t) n ≡ accepted (a, r)
+        → nth (blocksAt f a r) k ≡ accepted (m, x) → (m ≡ p) × (carriedBy x ≡ c) → BlockStands s b n k p c
+    standing f t a r m x e g i j =
+        let d = data-behind f b t (file-of s b f t h e) n a r g in
+        let q = placed-there (putBlock f) b k (r .blocks) (d .0) (a + 6) m x (d .1) i in
+        let w : drop p b ≡ putBlock f x ++ q .0 = ap (λ m. drop m b) (sym (j .0)) ∙ q .1 in
+        record {
+          format = f;
+          trace = t;
+          block = x;
+          was-read = e;
+          is-block =
+              rw (placed-is (putFrame f) (t .frames) (length (opening (t .lines))) n a r g) (placed-is (putBlock f) (r .blocks) (a + 6) k m x i);
+          is-kind = j .1;
+          is-there = rw w (take-at (putBlock f x) (q .0) (length (putBlock f x)) refl);
+          registers-behind = λ d e. registers-there f b p d (q .0) (w ∙ ap (λ x. putBlock f x ++ q .0) e);
+          memory-behind = λ a d e. memory-there f b p a d (q .0) (w ∙ ap (λ x. putBlock f x ++ q .0) e);
+        }
