@@ -5,7 +5,8 @@ use mathlib.Core.Bool.{Bool, true, false, cond, not, _&&_, Bool·beq}
 use Prim.Native.Nat.{ℕ, _+_, _≤_}
 use native.Mathlib.Omega.{arith}
 use mathlib.Core.List.{List, [], _∷_, _++_, append-assoc, append-nil}
-use lib.ListN.{length, length-append}
+use lib.ListN.{length, take, length-append}
+use lib.Seq.{take-at}
 use lib.Dec.{eqb}
 use borrow.Author.Tests.{eqb-true, eq-eqb, le-leb}
 use Rattle.refusals.specs.Refusal.{limit}
@@ -187,6 +188,12 @@ holds f t b h e = record { fits = h; laid-out = e }
 pub bytes-of : (f : Format) (b : List ℕ) (t : Trace) → File f b t → encode f t ≡ b
 unfolding encode
 bytes-of f b t i = i .laid-out
+
+-- a file starts with its opening
+pub opening-front : (f : Format) (b : List ℕ) (t : Trace) → File f b t → take (length (opening (t .lines))) b ≡ opening (t .lines)
+opening-front f b t i =
+    let o = opening (t .lines) in
+    ap (take (length o)) (sym (i .laid-out)) ∙ take-at o (flat (putFrame f) (t .frames)) (length o) refl
 
 pub decode-file : (f : Format) (b : List ℕ) (t : Trace) → File f b t → decode f b ≡ accepted t
 decode-file f b t i = ap (decode f) (sym (bytes-of f b t i)) ∙ decode-encode f t (i .fits)

@@ -126,23 +126,23 @@ module _ {A : Type 0} where
   nth-second (x ∷ l) m zero h = absurd (omega arith)
   nth-second (x ∷ l) m (suc n) h = nth-second l m n (omega arith) ∙ ap (nth m) (omega arith)
 
+part-first : (a b : List ℕ) (x : Answer (ℕ × ℕ)) → pairPart a b (onSide first x) ≡ part a x
+part-first a b (accepted r) = refl
+part-first a b (refused m) = refl
+
+part-second : (a b : List ℕ) (x : Answer (ℕ × ℕ)) → pairPart a b (onSide second x) ≡ part b x
+part-second a b (accepted r) = refl
+part-second a b (refused m) = refl
+
 module _ (s : Settings) (a b c : List ℕ) (f : Format) (t u : Trace) (i : Joined s a b c f t u) (n : ℕ) where
-  part-first : (x : Answer (ℕ × ℕ)) → pairPart a b (onSide first x) ≡ part a x
-  part-first (accepted r) = refl
-  part-first (refused m) = refl
-
-  part-second : (x : Answer (ℕ × ℕ)) → pairPart a b (onSide second x) ≡ part b x
-  part-second (accepted r) = refl
-  part-second (refused m) = refl
-
   by-side : (w : Bool) → ltb n (length (t .frames)) ≡ w
       → pairPart a b (cond w (onSide first (frameData n f t)) (onSide second (frameData (n - length (t .frames)) f u)))
       ≡ frameBytes f (nth (t .frames ++ u .frames) n)
   by-side true e =
-      part-first (frameData n f t) ∙ (frame-part f a t n (i .both .first-file)) .0
+      part-first a b (frameData n f t) ∙ (frame-part f a t n (i .both .first-file)) .0
       ∙ ap (frameBytes f) (sym (nth-first (t .frames) (u .frames) n (ltb-true n (length (t .frames)) e)))
   by-side false e =
-      part-second (frameData (n - length (t .frames)) f u) ∙ (frame-part f b u (n - length (t .frames)) (i .both .second-file)) .0
+      part-second a b (frameData (n - length (t .frames)) f u) ∙ (frame-part f b u (n - length (t .frames)) (i .both .second-file)) .0
       ∙ ap (frameBytes f) (sym (nth-second (t .frames) (u .frames) n (ltb-false n (length (t .frames)) e)))
 
   pub asked-join : asked s c (frameData n) ≡ frameData n f (join t u)
