@@ -8,7 +8,7 @@ use native.Mathlib.Omega.{arith}
 use mathlib.Core.List.{List, [], _∷_, _++_, map}
 use lib.ListN.{length, take, drop, length-append, length-drop}
 use lib.Dec.{leb}
-use lib.Seq.{take-at, length-take-le}
+use lib.Seq.{length-take-le}
 use borrow.Author.Tests.{le-leb}
 use Rattle.refusals.specs.Refusal.{badArgument}
 use Rattle.fields.specs.Lists.{flat, Each}
@@ -28,6 +28,7 @@ use Rattle.gdb_read.specs.Steps.{Summary, summaryOf, readSeen}
 use Rattle.gdb_frames.specs.File.{File, frames-behind, start-within, told}
 use Rattle.gdb_edit.specs.Selection.{Selection, selects, picks, meaning, valid}
 use Rattle.gdb_edit.specs.Cut.{sift, cut, cutOf}
+use Rattle.gdb_edit.specs.CutLaws.{opening-front}
 use Rattle.gdb_edit.specs.Kept.{keptOf, kept, Heads}
 use Rattle.gdb_edit.specs.declared.Selection as lent
 
@@ -76,9 +77,6 @@ module _ (f : Format) (b : List ℕ) (t : Trace) (i : File f b t) where
   kept-in : (c : Selection) → kept f c (drop (length (opening (t .lines))) b) ≡ flat (putFrame f) (sift (picks c) (t .frames))
   unfolding kept
   kept-in c = ap (keptOf f c) heads-in ∙ kept-frames f c (t .frames)
-
-  pub opening-front : take (length (opening (t .lines))) b ≡ opening (t .lines)
-  opening-front = ap (take (length (opening (t .lines)))) (sym (i .laid-out)) ∙ take-at (opening (t .lines)) (flat (putFrame f) (t .frames)) (length (opening (t .lines))) refl
 
 -- ---- a cut of a file that was read
 

@@ -66,6 +66,9 @@ module _ (f : Format) (b : List ℕ) (at : ℕ) where
               ap (keptOf f c) (turn .more) ∙ rw (q .1, number-is) (one-kept f (selects c (v .tracepoint)) (turn .element) _ _ head-bytes);
         }
 
+pub part-long : {f : Format} {b : List ℕ} {at : ℕ} {v : Row} {m : ℕ} → Passed f b at v m → length (take (m - at) (drop at b)) ≡ m - at
+part-long {b = b} {at = at} {m = m} p = length-part b at (m - at) (omega (arith, p .past, p .inside))
+
 module _ {f : Format} {b : List ℕ} {at : ℕ} {v : Row} {m : ℕ} (p : Passed f b at v m) (c : Selection) where
   pub kept-yes : selects c (v .tracepoint) ≡ true → kept f c (drop at b) ≡ take (m - at) (drop at b) ++ kept f c (drop m b)
   kept-yes e = p .keeps c ∙ rw e
@@ -73,8 +76,5 @@ module _ {f : Format} {b : List ℕ} {at : ℕ} {v : Row} {m : ℕ} (p : Passed 
   pub kept-no : selects c (v .tracepoint) ≡ false → kept f c (drop at b) ≡ kept f c (drop m b)
   kept-no e = p .keeps c ∙ rw e
 
-  pub part-long : length (take (m - at) (drop at b)) ≡ m - at
-  part-long = length-part b at (m - at) (omega (arith, p .past, p .inside))
-
   pub length-yes : selects c (v .tracepoint) ≡ true → length (kept f c (drop at b)) ≡ (m - at) + length (kept f c (drop m b))
-  length-yes e = ap length (kept-yes e) ∙ length-append (take (m - at) (drop at b)) (kept f c (drop m b)) ∙ ap (λ n. n + length (kept f c (drop m b))) part-long
+  length-yes e = ap length (kept-yes e) ∙ length-append (take (m - at) (drop at b)) (kept f c (drop m b)) ∙ ap (λ n. n + length (kept f c (drop m b))) (part-long p)

@@ -4,28 +4,31 @@
 --   document 01 writes it, called in that byte order. Each sentence below holds wherever every join in it is at most 64 MiB and each output has
 --   room; no cut or join in it is then refused. Results are equal when their lengths and all bytes up to those lengths are."
 --
--- A plan p is a file or a cut or join of plans, each with its lent output (Plan.antt). `Fits` says the premises of p, `Done` that no call in p is refused,
--- `result` is the output of p's last call up to the returned length. `Same p q`: neither has a refused call, and their results are equal.
--- That all openings are identical is said as: all traces have the lines ls; openings of accepted traces are identical exactly where their lines are (`one-opening`).
+-- A plan is a file or a cut or join of plans, each with its lent output (Plan.antt). `Given`, `JoinsFit` and `OutputsFit` are the premises: the traces and
+-- selections, the limit at each join, the room at each call. Of the two plans in a sentence the joins of the first are to be within the limit; the second's then are.
+-- `Done`: no call is refused. `result`: the output of the last call up to the returned length, `returned`. `Same`: nothing is refused, the results are equal.
+-- That all openings are identical is said as: all traces have the lines ls. Openings of accepted traces are identical exactly where their lines are (`one-opening`).
 -- Assumes nothing.
-use mathlib.Core.Path.{_≡_, sym, ap, _∙_}
+use mathlib.Core.Path.{_≡_, sym, ap, _∙_, subst}
 use mathlib.Core.Bool.{_&&_}
-use Prim.Native.Nat.{ℕ, _+_, _<_}
+use Prim.Native.Nat.{ℕ, _+_, _<_, _≤_}
+use native.Mathlib.Omega.{arith}
 use mathlib.Core.List.{List, _++_}
 use lib.ListN.{length}
+use Rattle.refusals.specs.Refusal.{limit}
 use Rattle.fields.specs.Lists.{flat}
 use Rattle.fields.specs.Answer.{accepted}
 use Rattle.gdb_format.specs.Trace.{Trace, traceOf, opening, putFrame, encode}
 use Rattle.gdb_format.specs.Layout.{Layout}
-use Rattle.gdb_format.specs.Settings.{settingsOf}
 use Rattle.gdb_format.specs.Decode.{decode}
 use Rattle.gdb_format.specs.declared.Settings.{Settings}
 use Rattle.gdb_format.specs.declared.Format.{Format}
-use Rattle.gdb_edit.specs.Selection.{picks, meaning, against}
-use Rattle.gdb_edit.specs.Cut.{sift}
-use Rattle.gdb_edit.specs.CutLaws.{cut-join, cut-cut, cut-comm, join-assoc, join-bare, cut-lengths, bytes-of, same-lines}
-use Rattle.gdb_edit.specs.Plan.{Plan, cutting, joining, value, bareOpening, result, Done, Fits, Same}
-use Rattle.gdb_edit.specs.PlanLaws.{runs, same-value}
+use Rattle.gdb_edit.specs.Selection as meant
+use Rattle.gdb_edit.specs.Selection.{picks, opposite, meaning, against}
+use Rattle.gdb_edit.specs.Cut.{sift, join, joinOf}
+use Rattle.gdb_edit.specs.CutLaws.{cut-join, cut-cut, cut-comm, join-assoc, join-bare, cut-lengths, cut-shorter, join-longer, bytes-of, same-lines}
+use Rattle.gdb_edit.specs.Plan.{Plan, file, cutting, joining, value, HasRoom, bareOpening, result, returned, Done, Same, Given, JoinsFit, OutputsFit}
+use Rattle.gdb_edit.specs.PlanLaws.{lines-of, runs, same-value, bare-given, returns-length}
 use Rattle.gdb_edit.specs.Standing.{framesOf, StandsIn, HoldsFrames, OneOf, holds-frames, in-one}
 use Rattle.gdb_edit.specs.declared.Selection.{Selection}
 
@@ -33,76 +36,140 @@ use Rattle.gdb_edit.specs.declared.Selection.{Selection}
 pub one-opening : (f : Format) (t u : Trace) → Layout f t → Layout f u → opening (t .lines) ≡ opening (u .lines) → t .lines ≡ u .lines
 one-opening f t u h k e = same-lines f (t .lines) (u .lines) (h .lines-fit) (k .lines-fit) e
 
-module _ (s : Settings) (f : Format) (ok : settingsOf s ≡ accepted f) (ls : List (List ℕ)) where
-  module _ (p q r : Plan) (a b : Selection) (o₁ o₂ o₃ o₄ o₅ : List ℕ) where
-    -- "Cutting a join by A equals joining, in the same order, the cuts by A."
-    pub cut-of-join : Fits s f ls (cutting a o₁ (joining o₂ p q)) → Fits s f ls (joining o₃ (cutting a o₄ p) (cutting a o₅ q))
-        → Same s (cutting a o₁ (joining o₂ p q)) (joining o₃ (cutting a o₄ p) (cutting a o₅ q))
-    cut-of-join = same-value s f ok ls _ _ (cut-join (meaning a) (value p) (value q))
+-- "Of the cut by A and the cut by its opposite, each frame of the trace stands in exactly one, once and in file order, and neither holds any other frame.":
+-- c is what A means, x the cut of p by A and y the cut by its opposite
+pub record Parted (s : Settings) (f : Format) (c : meant.Selection) (p x y : Plan) : Type 0 where
+  pub kept-done : Done s x
+  pub dropped-done : Done s y
+  pub in-exactly-one : (n : ℕ) → n < length (framesOf f (decode f (result s p)))
+      → OneOf (StandsIn f c (result s p) (result s x) n) (StandsIn f (opposite c) (result s p) (result s y) n)
+  pub kept-holds : HoldsFrames f c (result s p) (result s x)
+  pub dropped-holds : HoldsFrames f (opposite c) (result s p) (result s y)
 
-    -- "Cutting by A then B equals cutting by B then A,"
-    pub cuts-commute : Fits s f ls (cutting b o₁ (cutting a o₂ p)) → Fits s f ls (cutting a o₃ (cutting b o₄ p))
-        → Same s (cutting b o₁ (cutting a o₂ p)) (cutting a o₃ (cutting b o₄ p))
-    cuts-commute = same-value s f ok ls _ _ (cut-comm (meaning a) (meaning b) (value p))
+-- "The lengths of these two cuts add to the file's length plus one opening.": the lengths of the results, which are the lengths returned
+pub record LengthsAdd (s : Settings) (ls : List (List ℕ)) (p x y : Plan) : Type 0 where
+  pub kept-returned : returned s x ≡ accepted (length (result s x))
+  pub dropped-returned : returned s y ≡ accepted (length (result s y))
+  pub add : length (result s x) + length (result s y) ≡ length (result s p) + length (opening ls)
 
-    -- "and both equal the opening followed by exactly the frames that A and B both select, in file order."
-    pub cuts-both : Fits s f ls (cutting b o₁ (cutting a o₂ p))
-        → Done s (cutting b o₁ (cutting a o₂ p))
-        × (result s (cutting b o₁ (cutting a o₂ p)) ≡ opening ls ++ flat (putFrame f) (sift (λ x. picks (meaning a) x && picks (meaning b) x) ((value p) .frames)))
+module _ (s : Settings) (f : Format) (ls : List (List ℕ)) where
+  -- "Cutting a join by A equals joining, in the same order, the cuts by A."
+  module _ (p q : Plan) (a : Selection) (o₁ o₂ o₃ o₄ o₅ : List ℕ) where
+    abbrev cutOfJoin : Plan
+    cutOfJoin = cutting a o₁ (joining o₂ p q)
+
+    abbrev joinOfCuts : Plan
+    joinOfCuts = joining o₃ (cutting a o₄ p) (cutting a o₅ q)
+
+    pub cut-of-join : Given s f ls cutOfJoin → JoinsFit f cutOfJoin → OutputsFit s cutOfJoin → OutputsFit s joinOfCuts → Same s cutOfJoin joinOfCuts
+    cut-of-join g j x y =
+        let e = cut-join (meaning a) (value p) (value q) in
+        let l = subst (λ t. length (encode f t) ≤ limit) e (omega (arith, cut-shorter f (meaning a) (join (value p) (value q)), j .2)) in
+        same-value s f cutOfJoin joinOfCuts e (runs s f ls _ g j x) (runs s f ls _ ((g .0 .0, g .1), (g .0 .1, g .1)) (j .0, j .1, l) y)
+
+  -- "Cutting by A then B equals cutting by B then A,"
+  module _ (p : Plan) (a b : Selection) (o₁ o₂ o₃ o₄ : List ℕ) where
+    abbrev cutAB : Plan
+    cutAB = cutting b o₁ (cutting a o₂ p)
+
+    abbrev cutBA : Plan
+    cutBA = cutting a o₃ (cutting b o₄ p)
+
+    pub cuts-commute : Given s f ls cutAB → JoinsFit f cutAB → OutputsFit s cutAB → OutputsFit s cutBA → Same s cutAB cutBA
+    cuts-commute g j x y =
+        let e = cut-comm (meaning a) (meaning b) (value p) in
+        same-value s f cutAB cutBA e (runs s f ls _ g j x) (runs s f ls _ ((g .0 .0, g .1), g .0 .1) j y)
+
+  -- "and both equal the opening followed by exactly the frames that A and B both select, in file order."
+  module _ (p : Plan) (a b : Selection) (o₁ o₂ : List ℕ) where
+    abbrev bothSelect : List ℕ
+    bothSelect = flat (putFrame f) (sift (λ x. picks (meaning a) x && picks (meaning b) x) ((value p) .frames))
+
+    pub cuts-both : let c = cutting b o₁ (cutting a o₂ p) in Given s f ls c → JoinsFit f c → OutputsFit s c → Done s c × (result s c ≡ opening ls ++ bothSelect)
     unfolding encode
-    cuts-both i =
-        let v = runs s f ok ls (cutting b o₁ (cutting a o₂ p)) i in (
-          v .done,
-          sym (bytes-of f _ _ (v .held)) ∙ ap (encode f) (cut-cut (meaning a) (meaning b) (value p))
-              ∙ ap (λ l. opening l ++ flat (putFrame f) (sift (λ x. picks (meaning a) x && picks (meaning b) x) ((value p) .frames))) (v .lines-are),
-        )
+    cuts-both g j x =
+        let r = runs s f ls (cutting b o₁ (cutting a o₂ p)) g j x in
+        let e = ap (encode f) (cut-cut (meaning a) (meaning b) (value p)) ∙ ap (λ l. opening l ++ bothSelect) (lines-of s f ls p (g .0 .0)) in
+        (r .done, sym (bytes-of f _ _ (r .held)) ∙ e)
 
-    -- "Joining is associative,"
-    pub join-associates : Fits s f ls (joining o₁ (joining o₂ p q) r) → Fits s f ls (joining o₃ p (joining o₄ q r))
-        → Same s (joining o₁ (joining o₂ p q) r) (joining o₃ p (joining o₄ q r))
-    join-associates = same-value s f ok ls _ _ (join-assoc (value p) (value q) (value r))
+  -- "Joining is associative,"
+  module _ (p q r : Plan) (o₁ o₂ o₃ o₄ : List ℕ) where
+    abbrev leftFirst : Plan
+    leftFirst = joining o₁ (joining o₂ p q) r
+
+    abbrev rightFirst : Plan
+    rightFirst = joining o₃ p (joining o₄ q r)
+
+    pub join-associates : Given s f ls leftFirst → JoinsFit f leftFirst → OutputsFit s leftFirst → OutputsFit s rightFirst → Same s leftFirst rightFirst
+    join-associates g j x y =
+        let e = join-assoc (value p) (value q) (value r) in
+        let l : length (encode f (join (value p) (join (value q) (value r)))) ≤ limit = subst (λ t. length (encode f t) ≤ limit) e (j .2) in
+        let h = join-longer f (value p) (join (value q) (value r)) (lines-of s f ls p (g .0 .0) ∙ sym (lines-of s f ls q (g .0 .1))) in
+        same-value s f leftFirst rightFirst e (runs s f ls _ g j x)
+        (runs s f ls _ (g .0 .0, (g .0 .1, g .1)) (j .0 .0, (j .0 .1, j .1, omega (arith, h, l)), l) y)
+
+  -- "and joining the bare opening before or after a trace gives that trace." (`bare-given`: the bare opening is itself an accepted trace with these lines.)
+  module _ (p : Plan) (o : List ℕ) where
+    abbrev bareFirst : Plan
+    bareFirst = joining o (bareOpening ls) p
+
+    abbrev bareLast : Plan
+    bareLast = joining o p (bareOpening ls)
+
+    pub bare-before : Given s f ls p → JoinsFit f p → OutputsFit s bareFirst → Same s bareFirst p
+    bare-before g j x =
+        let r = runs s f ls p g j (x .1) in
+        let e : traceOf ls ((value p) .frames) ≡ value p = ap (λ l. traceOf l ((value p) .frames)) (sym (lines-of s f ls p g)) in
+        let l = subst (λ t. length (encode f t) ≤ limit) (sym e) (r .held .fits .length-fits) in
+        same-value s f bareFirst p e (runs s f ls bareFirst (bare-given s f ls p g, g) (tt, j, l) x) r
+
+    pub bare-after : Given s f ls p → JoinsFit f p → OutputsFit s bareLast → Same s bareLast p
+    bare-after g j x =
+        let r = runs s f ls p g j (x .0) in
+        let e = join-bare (value p) in
+        let l = subst (λ t. length (encode f t) ≤ limit) (sym e) (r .held .fits .length-fits) in
+        same-value s f bareLast p e (runs s f ls bareLast (g, bare-given s f ls p g) (j, tt, l) x) r
+
+  -- of a file nothing is asked but the room of the join
+  module _ (b o : List ℕ) (t : Trace) where
+    pub bare-before-file : Given s f ls (file b t) → HasRoom (joinOf s (opening ls) b) o → Same s (joining o (bareOpening ls) (file b t)) (file b t)
+    unfolding result
+    bare-before-file g h = bare-before (file b t) o g tt (tt, tt, h)
+
+    pub bare-after-file : Given s f ls (file b t) → HasRoom (joinOf s b (opening ls)) o → Same s (joining o (file b t) (bareOpening ls)) (file b t)
+    unfolding result
+    bare-after-file g h = bare-after (file b t) o g tt (tt, tt, h)
 
   module _ (p : Plan) (a : Selection) (o₁ o₂ : List ℕ) where
-    with-lines : (t : Trace) → t .lines ≡ ls → traceOf ls (t .frames) ≡ t
-    with-lines t e = ap (λ l. traceOf l (t .frames)) (sym e)
+    -- the cut by A, and the cut by its opposite (`against-means`)
+    abbrev byA : Plan
+    byA = cutting a o₁ p
 
-    -- "and joining the bare opening before or after a trace gives that trace." (`bare-fits`: the bare opening is itself an accepted trace with these lines.)
-    pub bare-before : Fits s f ls p → Fits s f ls (joining o₁ (bareOpening ls) p) → Same s (joining o₁ (bareOpening ls) p) p
-    bare-before i j = same-value s f ok ls _ _ (with-lines (value p) ((runs s f ok ls p i) .lines-are)) j i
+    abbrev byOpposite : Plan
+    byOpposite = cutting (against a) o₂ p
 
-    pub bare-after : Fits s f ls p → Fits s f ls (joining o₁ p (bareOpening ls)) → Same s (joining o₁ p (bareOpening ls)) p
-    bare-after i j = same-value s f ok ls _ _ (join-bare (value p)) j i
+    module _ (g : Given s f ls byA) (j : JoinsFit f byA) (x : OutputsFit s byA) (y : OutputsFit s byOpposite) where
+      pub parted : Parted s f (meaning a) p byA byOpposite
+      parted =
+          let r = (runs s f ls p (g .0) j (x .0)) .held in
+          let u = runs s f ls byA g j x in
+          let v = runs s f ls byOpposite g j y in
+          record {
+            kept-done = u .done;
+            dropped-done = v .done;
+            in-exactly-one = in-one f (meaning a) _ _ _ (value p) r (u .held) (v .held);
+            kept-holds = holds-frames f (meaning a) _ _ (value p) r (u .held);
+            dropped-holds = holds-frames f (opposite (meaning a)) _ _ (value p) r (v .held);
+          }
 
-    -- "Of the cut by A and the cut by its opposite, each frame of the trace stands in exactly one, once and in file order, and neither holds any other frame."
-    pub record Parted : Type 0 where
-      pub kept-done : Done s (cutting a o₁ p)
-      pub dropped-done : Done s (cutting (against a) o₂ p)
-      pub in-exactly-one : (n : ℕ) → n < length (framesOf f (decode f (result s p)))
-          → OneOf (StandsIn f (meaning a) (result s p) (result s (cutting a o₁ p)) n) (StandsIn f (meaning (against a)) (result s p) (result s (cutting (against a) o₂ p)) n)
-      pub kept-holds : HoldsFrames f (meaning a) (result s p) (result s (cutting a o₁ p))
-      pub dropped-holds : HoldsFrames f (meaning (against a)) (result s p) (result s (cutting (against a) o₂ p))
-
-    pub parted : Fits s f ls p → Fits s f ls (cutting a o₁ p) → Fits s f ls (cutting (against a) o₂ p) → Parted
-    parted i j k =
-        let r = (runs s f ok ls p i) .held in
-        let u = runs s f ok ls (cutting a o₁ p) j in
-        let v = runs s f ok ls (cutting (against a) o₂ p) k in
-        record {
-          kept-done = u .done;
-          dropped-done = v .done;
-          in-exactly-one = in-one f (meaning a) _ _ _ (value p) r (u .held) (v .held);
-          kept-holds = holds-frames f (meaning a) _ _ (value p) r (u .held);
-          dropped-holds = holds-frames f (meaning (against a)) _ _ (value p) r (v .held);
-        }
-
-    -- "The lengths of these two cuts add to the file's length plus one opening." (`parted` says that neither cut is refused.)
-    pub cuts-lengths : Fits s f ls p → Fits s f ls (cutting a o₁ p) → Fits s f ls (cutting (against a) o₂ p)
-        → length (result s (cutting a o₁ p)) + length (result s (cutting (against a) o₂ p)) ≡ length (result s p) + length (opening ls)
-    cuts-lengths i j k =
-        let r = runs s f ok ls p i in
-        rw (
-          ← bytes-of f _ _ ((runs s f ok ls (cutting a o₁ p) j) .held),
-          ← bytes-of f _ _ ((runs s f ok ls (cutting (against a) o₂ p) k) .held),
-          ← bytes-of f _ _ (r .held),
-          ← r .lines-are,
-        ) (cut-lengths f (meaning a) (value p))
+      pub cuts-lengths : LengthsAdd s ls p byA byOpposite
+      cuts-lengths =
+          let r = (runs s f ls p (g .0) j (x .0)) .held in
+          let u = runs s f ls byA g j x in
+          let v = runs s f ls byOpposite g j y in
+          let e = lines-of s f ls p (g .0) in
+          record {
+            kept-returned = returns-length s byA (u .done);
+            dropped-returned = returns-length s byOpposite (v .done);
+            add = rw (← bytes-of f _ _ (u .held), ← bytes-of f _ _ (v .held), ← bytes-of f _ _ r, ← e) (cut-lengths f (meaning a) (value p));
+          }

@@ -5,7 +5,8 @@ use mathlib.Core.Bool.{Bool, true, false, cond, not, _&&_, Bool·beq}
 use Prim.Native.Nat.{ℕ, _+_, _≤_}
 use native.Mathlib.Omega.{arith}
 use mathlib.Core.List.{List, [], _∷_, _++_, append-assoc, append-nil}
-use lib.ListN.{length, length-append}
+use lib.ListN.{length, take, length-append}
+use lib.Seq.{take-at}
 use lib.Dec.{eqb}
 use borrow.Author.Tests.{eqb-true, eq-eqb, le-leb}
 use Rattle.refusals.specs.Refusal.{limit}
@@ -22,7 +23,7 @@ use Rattle.gdb_format.specs.Exactness.{decode-encode}
 use Rattle.gdb_format.specs.declared.Settings.{Settings}
 use Rattle.gdb_format.specs.declared.Format.{Format}
 use Rattle.gdb_frames.specs.File.{File}
-use Rattle.gdb_edit.specs.Selection.{Selection, inSome, picks, opposite, meaning, valid}
+use Rattle.gdb_edit.specs.Selection.{Selection, inSome, picks, opposite, meaning, valid, against}
 use Rattle.gdb_edit.specs.Cut.{sift, cut, join, bare, sameBytes, cutOf, joinOf}
 use Rattle.gdb_edit.specs.declared.Selection as lent
 
@@ -112,6 +113,10 @@ beq-not true false = refl
 beq-not false true = refl
 beq-not false false = refl
 
+-- the lent selection that `opposite` answers means the opposite
+pub against-means : (s : lent.Selection) → meaning (against s) ≡ opposite (meaning s)
+against-means s = refl
+
 -- the opposite selects just the others
 pub picks-other : (c : Selection) (r : Frame) → picks (opposite c) r ≡ not (picks c r)
 picks-other c r = beq-not (c .keep) (inSome (c .ranges) (r .tracepoint))
@@ -119,6 +124,22 @@ picks-other c r = beq-not (c .keep) (inSome (c .ranges) (r .tracepoint))
 pub length-encode : (f : Format) (t : Trace) → length (encode f t) ≡ length (opening (t .lines)) + length (flat (putFrame f) (t .frames))
 unfolding encode
 length-encode f t = length-append (opening (t .lines)) (flat (putFrame f) (t .frames))
+
+-- a cut is no longer than its trace
+pub cut-shorter : (f : Format) (c : Selection) (t : Trace) → length (encode f (cut c t)) ≤ length (encode f t)
+cut-shorter f c t = omega (arith, length-encode f t, length-encode f (cut c t), flat-parts (putFrame f) (picks c) (t .frames))
+
+-- how long a join is
+pub length-join : (f : Format) (t u : Trace)
+    → length (encode f (join t u)) ≡ length (opening (t .lines)) + (length (flat (putFrame f) (t .frames)) + length (flat (putFrame f) (u .frames)))
+length-join f t u =
+    length-encode f (join t u)
+    ∙ ap (λ n. length (opening (t .lines)) + n)
+    (ap length (flat-append (putFrame f) (t .frames) (u .frames)) ∙ length-append (flat (putFrame f) (t .frames)) (flat (putFrame f) (u .frames)))
+
+-- a join is no shorter than its second trace
+pub join-longer : (f : Format) (t u : Trace) → t .lines ≡ u .lines → length (encode f u) ≤ length (encode f (join t u))
+join-longer f t u e = omega (arith, length-encode f u, length-join f t u, ap (λ l. length (opening l)) e)
 
 -- what is kept and what is dropped: the file's length, and one opening more
 pub cut-lengths : (f : Format) (c : Selection) (t : Trace)
@@ -140,7 +161,7 @@ layout-cut f c t h =
     record {
       lines-fit = h .lines-fit;
       frames-fit = sift-each (FrameFits f (registerSize f (t .lines))) (picks c) (t .frames) (h .frames-fit);
-      length-fits = omega (arith, h .length-fits, length-encode f t, length-encode f (cut c t), flat-parts (putFrame f) (picks c) (t .frames));
+      length-fits = omega (arith, h .length-fits, cut-shorter f c t);
     }
 
 pub layout-join : (f : Format) (t u : Trace) → Layout f t → Layout f u → t .lines ≡ u .lines → length (encode f (join t u)) ≤ limit → Layout f (join t u)
@@ -167,6 +188,12 @@ holds f t b h e = record { fits = h; laid-out = e }
 pub bytes-of : (f : Format) (b : List ℕ) (t : Trace) → File f b t → encode f t ≡ b
 unfolding encode
 bytes-of f b t i = i .laid-out
+
+-- a file starts with its opening
+pub opening-front : (f : Format) (b : List ℕ) (t : Trace) → File f b t → take (length (opening (t .lines))) b ≡ opening (t .lines)
+opening-front f b t i =
+    let o = opening (t .lines) in
+    ap (take (length o)) (sym (i .laid-out)) ∙ take-at o (flat (putFrame f) (t .frames)) (length o) refl
 
 pub decode-file : (f : Format) (b : List ℕ) (t : Trace) → File f b t → decode f b ≡ accepted t
 decode-file f b t i = ap (decode f) (sym (bytes-of f b t i)) ∙ decode-encode f t (i .fits)

@@ -6,7 +6,6 @@ use Prim.Native.Nat.{ℕ, _+_, _-_, _<_, _≤_}
 use native.Mathlib.Omega.{arith}
 use mathlib.Core.List.{List, _++_, append-assoc}
 use lib.ListN.{length, take, drop, length-append, length-drop}
-use lib.Seq.{take-at}
 use lib.Dec.{leb}
 use borrow.Author.Tests.{le-leb, lt-leb, leb-true}
 use Rattle.refusals.specs.Refusal.{limit, tooLong, openingsDiffer}
@@ -23,7 +22,7 @@ use Rattle.gdb_read.specs.Steps.{Summary, summaryOf, readSeen}
 use Rattle.gdb_frames.specs.File.{File, file-of, frames-behind, start-within, summary-inv}
 use Rattle.gdb_edit.specs.Cut.{join, sameBytes, within, joinOf}
 use Rattle.gdb_edit.specs.Joined.{pairSeen}
-use Rattle.gdb_edit.specs.CutLaws.{flat-append, bytes-of, same-bytes, bytes-same}
+use Rattle.gdb_edit.specs.CutLaws.{flat-append, bytes-of, opening-front, same-bytes, bytes-same}
 
 pub refused-same : {A : Type 0} {i j : ℕ} → _≡_ {A = Answer A} (refused i) (refused j) → j ≡ i
 refused-same e = cc
@@ -78,10 +77,11 @@ module _ (s : Settings) (a b : List ℕ) (ha : Bytes a) (hb : Bytes b) (m k : Su
 
 -- ---- the join of two such files
 
-module _ (s : Settings) (a b : List ℕ) (f : Format) (t u : Trace) (i : Both s a b f t u) where
-  front : (c : List ℕ) (v : Trace) → File f c v → take (length (opening (v .lines))) c ≡ opening (v .lines)
-  front c v j = ap (take (length (opening (v .lines)))) (sym (j .laid-out)) ∙ take-at (opening (v .lines)) (flat (putFrame f) (v .frames)) (length (opening (v .lines))) refl
+differ : (x y : List ℕ) (w : Bool) → (x ≡ y → ⊥) → sameBytes x y ≡ w → w ≡ false
+differ x y true h e = absurd (h (same-bytes x y e))
+differ x y false h e = refl
 
+module _ (s : Settings) (a b : List ℕ) (f : Format) (t u : Trace) (i : Both s a b f t u) where
   pub joined-bytes : encode f (join t u) ≡ a ++ drop (length (opening (u .lines))) b
   unfolding encode
   joined-bytes =
@@ -98,17 +98,13 @@ module _ (s : Settings) (a b : List ℕ) (f : Format) (t u : Trace) (i : Both s 
       rw (i .first-read, i .second-read)
       (ap (λ x. cond (sameBytes (opening (t .lines)) (opening (u .lines))) (within x) (refused openingsDiffer)) joined-bytes)
 
-  differ : (x y : List ℕ) (w : Bool) → (x ≡ y → ⊥) → sameBytes x y ≡ w → w ≡ false
-  differ x y true h e = absurd (h (same-bytes x y e))
-  differ x y false h e = refl
-
   pub join-differs : (take (length (opening (t .lines))) a ≡ take (length (opening (u .lines))) b → ⊥) → joinOf s a b ≡ refused openingsDiffer
   join-differs h =
-      open-join ∙ rw (differ (opening (t .lines)) (opening (u .lines)) _ (λ e. h (front a t (i .first-file) ∙ e ∙ sym (front b u (i .second-file)))) refl)
+      open-join ∙ rw (differ (opening (t .lines)) (opening (u .lines)) _ (λ e. h (opening-front f a t (i .first-file) ∙ e ∙ sym (opening-front f b u (i .second-file)))) refl)
 
   module _ (e : take (length (opening (t .lines))) a ≡ take (length (opening (u .lines))) b) where
     one-opening : opening (t .lines) ≡ opening (u .lines)
-    one-opening = sym (front a t (i .first-file)) ∙ e ∙ front b u (i .second-file)
+    one-opening = sym (opening-front f a t (i .first-file)) ∙ e ∙ opening-front f b u (i .second-file)
 
     pub join-long : limit < length a + (length b - length (opening (u .lines))) → joinOf s a b ≡ refused tooLong
     join-long h = open-join ∙ rw (one-opening, bytes-same (opening (u .lines)), lt-leb (length (a ++ drop (length (opening (u .lines))) b)) limit (omega (arith, joined-long)))

@@ -52,21 +52,40 @@ module _ (s : Settings) where
   result (cutting c out p) = let x = cutOf s c (result p) in upTo (answer x out) (exit x out)
   result (joining out p q) = let x = joinOf s (result p) (result q) in upTo (answer x out) (exit x out)
 
+  -- the length that a plan's last call returns; of a file its own
+  unfoldable pub returned : Plan → Answer ℕ
+  unfolding result
+  returned (file b t) = accepted (length b)
+  returned (cutting c out p) = answer (cutOf s c (result p)) out
+  returned (joining out p q) = answer (joinOf s (result p) (result q)) out
+
   -- no cut or join in it is refused
   unfoldable pub Done : Plan → Type 0
-  unfolding result
+  unfolding result returned
   Done (file b t) = Unit {0}
-  Done (cutting c out p) = Done p × IsWritten (answer (cutOf s c (result p)) out)
-  Done (joining out p q) = Done p × Done q × IsWritten (answer (joinOf s (result p) (result q)) out)
+  Done (cutting c out p) = Done p × IsWritten (returned (cutting c out p))
+  Done (joining out p q) = Done p × Done q × IsWritten (returned (joining out p q))
 
-  -- every file is accepted, with the lines ls, and every selection is one; every join is at most 64 MiB; each output has room
-  module _ (f : Format) (ls : List (List ℕ)) where
-    unfoldable pub Fits : Plan → Type 0
-    unfolding result
-    Fits (file b t) = Bytes b × (read s b ≡ accepted (f, t)) × (t .lines ≡ ls)
-    Fits (cutting c out p) = Fits p × (valid c ≡ true) × HasRoom (cutOf s c (result p)) out
-    Fits (joining out p q) = Fits p × Fits q × (length (encode f (join (value p) (value q))) ≤ limit) × HasRoom (joinOf s (result p) (result q)) out
-
-  -- both go through, and leave the same bytes
+  -- neither has a refused call; "results are equal when their lengths and all bytes up to those lengths are"
   abbrev pub Same : Plan → Plan → Type 0
-  Same p q = Done p × Done q × (result p ≡ result q)
+  Same p q = Done p × Done q × (returned p ≡ returned q) × (result p ≡ result q)
+
+-- ---- the premises of demand 3
+
+-- "all traces accepted in one byte order with identical openings, and all selections"
+abbrev pub Given : Settings → Format → List (List ℕ) → Plan → Type 0
+Given s f ls (file b t) = Bytes b × (read s b ≡ accepted (f, t)) × (t .lines ≡ ls)
+Given s f ls (cutting c out p) = Given s f ls p × (valid c ≡ true)
+Given s f ls (joining out p q) = Given s f ls p × Given s f ls q
+
+-- "every join in it is at most 64 MiB"
+abbrev pub JoinsFit : Format → Plan → Type 0
+JoinsFit f (file b t) = Unit {0}
+JoinsFit f (cutting c out p) = JoinsFit f p
+JoinsFit f (joining out p q) = JoinsFit f p × JoinsFit f q × (length (encode f (join (value p) (value q))) ≤ limit)
+
+-- "each output has room"
+abbrev pub OutputsFit : Settings → Plan → Type 0
+OutputsFit s (file b t) = Unit {0}
+OutputsFit s (cutting c out p) = OutputsFit s p × HasRoom (cutOf s c (result s p)) out
+OutputsFit s (joining out p q) = OutputsFit s p × OutputsFit s q × HasRoom (joinOf s (result s p) (result s q)) out

@@ -35,20 +35,21 @@ abbrev pub countOf : Selection → ℕ → Answer Trace → ℕ
 countOf c n (accepted t) = length (sift (picks c) (take n (t .frames)))
 countOf c n (refused m) = 0
 
-module _ (f : Format) (c : Selection) (b d : List ℕ) where
-  abbrev pub before : ℕ → ℕ
-  before n = countOf c n (decode f b)
+-- the same of a file
+abbrev pub before : Format → Selection → List ℕ → ℕ → ℕ
+before f c b n = countOf c n (decode f b)
 
+module _ (f : Format) (c : Selection) (b d : List ℕ) where
   -- frame n of the file b stands in d, a cut of b by c: the cut's frame k has the same bytes, k being the number of frames before n that c selects
   pub record StandsIn (n : ℕ) : Type 0 where
     pub bytes : List ℕ
     pub there : nth (framesOf f (decode f b)) n ≡ accepted bytes
-    pub here : nth (framesOf f (decode f d)) (before n) ≡ accepted bytes
+    pub here : nth (framesOf f (decode f d)) (before f c b n) ≡ accepted bytes
 
   -- d holds the frames that stand in it once and in file order, and no other
   pub record HoldsFrames : Type 0 where
-    pub ordered : (n m : ℕ) → n < m → StandsIn n → before n < before m
-    pub nothing-else : (k : ℕ) → k < length (framesOf f (decode f d)) → (n : ℕ) × StandsIn n × (before n ≡ k)
+    pub ordered : (n m : ℕ) → n < m → StandsIn n → before f c b n < before f c b m
+    pub nothing-else : (k : ℕ) → k < length (framesOf f (decode f d)) → (n : ℕ) × StandsIn n × (before f c b n ≡ k)
 
 -- exactly one of two
 abbrev pub OneOf : Type 0 → Type 0 → Type 0
@@ -145,13 +146,13 @@ module _ (f : Format) (c : Selection) (b d : List ℕ) (t : Trace) (i : File f b
       ap (selects c) q ∙ k .2
 
   -- in file order, and so once: of two frames that stand there, the later stands later
-  in-order : (n m : ℕ) → n < m → StandsIn f c b d n → before f c b d n < before f c b d m
+  in-order : (n m : ℕ) → n < m → StandsIn f c b d n → before f c b n < before f c b m
   in-order n m h w =
       let u = nth-unmap (putFrame f) (t .frames) n (w .bytes) (sym (ap (λ z. nth (framesOf f z) n) db) ∙ w .there) in
       subst (λ z. countOf c n z < countOf c m z) (sym db) (before-grows (picks c) (t .frames) n m (u .0) (u .1) (chosen n (u .0) (u .1) w) h)
 
   -- no other frame: each frame of the cut is one that stands there
-  no-other : (k : ℕ) → k < length (framesOf f (decode f d)) → (n : ℕ) × StandsIn f c b d n × (before f c b d n ≡ k)
+  no-other : (k : ℕ) → k < length (framesOf f (decode f d)) → (n : ℕ) × StandsIn f c b d n × (before f c b n ≡ k)
   no-other k h =
       let x = nth-some (putFrame f) (sift (picks c) (t .frames)) k (subst (λ z. k < length (framesOf f z)) dd h) in
       let q = sift-from (picks c) (t .frames) k (x .0) (x .1) in

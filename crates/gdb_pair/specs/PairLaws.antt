@@ -77,7 +77,7 @@ pub found-data : (f : Format) (b : List ℕ) (t : Trace) (n : ℕ) → File f b 
 found-data f b t n i = ap foundPlace (head-nth f b t n i) ∙ found-in f t n
 
 module _ (s : Settings) (a b c : List ℕ) (f : Format) (t u : Trace) (i : Joined s a b c f t u) (n : ℕ) where
-  place-is : pairPlace s a b n ≡ sided f n t u
+  pub place-is : pairPlace s a b n ≡ sided f n t u
   unfolding pairPlace
   place-is = rw (i .gives, i .both .first-read, i .both .second-read)
 
@@ -94,7 +94,7 @@ abbrev pub frameBytes : Format → Answer Frame → List ℕ
 frameBytes f (accepted r) = dataOf f r
 frameBytes f (refused n) = []
 
-abbrev placeOf : Format → Answer (ℕ × Frame) → Answer (ℕ × ℕ)
+abbrev pub placeOf : Format → Answer (ℕ × Frame) → Answer (ℕ × ℕ)
 placeOf f x = next (next x (λ r. accepted (frameSeen f (r .0) (r .1)))) (λ v. accepted (dataIn v))
 
 pub frame-part : (f : Format) (b : List ℕ) (t : Trace) (n : ℕ) → File f b t → (part b (frameData n f t) ≡ frameBytes f (nth (t .frames) n)) × InFile b (frameData n f t)
@@ -112,36 +112,36 @@ frame-part f b t n i = by (nth (framesAt f t) n) refl
         (sym (ap (frameBytes f) x), λ y z. never z)
 
 module _ {A : Type 0} where
-  nth-first : (l m : List A) (n : ℕ) → n < length l → nth (l ++ m) n ≡ nth l n
+  pub nth-first : (l m : List A) (n : ℕ) → n < length l → nth (l ++ m) n ≡ nth l n
   nth-first [] m n h = absurd (omega arith)
   nth-first (x ∷ l) m zero h = refl
   nth-first (x ∷ l) m (suc n) h = nth-first l m n (omega arith)
 
-  nth-second : (l m : List A) (n : ℕ) → length l ≤ n → nth (l ++ m) n ≡ nth m (n - length l)
+  pub nth-second : (l m : List A) (n : ℕ) → length l ≤ n → nth (l ++ m) n ≡ nth m (n - length l)
   nth-second [] m n h = ap (nth m) (omega arith)
   nth-second (x ∷ l) m zero h = absurd (omega arith)
   nth-second (x ∷ l) m (suc n) h = nth-second l m n (omega arith) ∙ ap (nth m) (omega arith)
 
+part-first : (a b : List ℕ) (x : Answer (ℕ × ℕ)) → pairPart a b (onSide first x) ≡ part a x
+part-first a b (accepted r) = refl
+part-first a b (refused m) = refl
+
+part-second : (a b : List ℕ) (x : Answer (ℕ × ℕ)) → pairPart a b (onSide second x) ≡ part b x
+part-second a b (accepted r) = refl
+part-second a b (refused m) = refl
+
 module _ (s : Settings) (a b c : List ℕ) (f : Format) (t u : Trace) (i : Joined s a b c f t u) (n : ℕ) where
-  part-first : (x : Answer (ℕ × ℕ)) → pairPart a b (onSide first x) ≡ part a x
-  part-first (accepted r) = refl
-  part-first (refused m) = refl
-
-  part-second : (x : Answer (ℕ × ℕ)) → pairPart a b (onSide second x) ≡ part b x
-  part-second (accepted r) = refl
-  part-second (refused m) = refl
-
   by-side : (w : Bool) → ltb n (length (t .frames)) ≡ w
       → pairPart a b (cond w (onSide first (frameData n f t)) (onSide second (frameData (n - length (t .frames)) f u)))
       ≡ frameBytes f (nth (t .frames ++ u .frames) n)
   by-side true e =
-      part-first (frameData n f t) ∙ (frame-part f a t n (i .both .first-file)) .0
+      part-first a b (frameData n f t) ∙ (frame-part f a t n (i .both .first-file)) .0
       ∙ ap (frameBytes f) (sym (nth-first (t .frames) (u .frames) n (ltb-true n (length (t .frames)) e)))
   by-side false e =
-      part-second (frameData (n - length (t .frames)) f u) ∙ (frame-part f b u (n - length (t .frames)) (i .both .second-file)) .0
+      part-second a b (frameData (n - length (t .frames)) f u) ∙ (frame-part f b u (n - length (t .frames)) (i .both .second-file)) .0
       ∙ ap (frameBytes f) (sym (nth-second (t .frames) (u .frames) n (ltb-false n (length (t .frames)) e)))
 
-  asked-join : asked s c (frameData n) ≡ frameData n f (join t u)
+  pub asked-join : asked s c (frameData n) ≡ frameData n f (join t u)
   asked-join = rw (i .join-read)
 
   part-is : pairPart a b (pairPlace s a b n) ≡ part c (asked s c (frameData n))

@@ -4,3 +4,4 @@ pub mod Listed
 pub mod ListedDat
 pub mod Told
 pub mod ToldDat
+pub mod Opposite

@@ -51,28 +51,12 @@ returns c =
     let a = c .before .before .before .before .args in
     lent-refused (cutOf (a .settings) (a .selection) (a .file .now)) (a .out .now) badArgument (cut-invalid (a .settings) (a .selection) (a .file .now) (sym (c .before .is-valid .ensures) ∙ not-true _ (c .if1 .taken)))
 
-has-room-requires : tie.Need-has-room-requires
-has-room-requires c κs =
-    let h = c .before .before in
-    let a = (Begun h) .args in
-    (start-there (a .settings) (a .file .now) (file-bytes h) (said h) (was-read h), heads-there (a .settings) (a .file .now) (file-bytes h) (said h) (was-read h), few h)
-
 returns-2 : tie.Need-returns-2
 returns-2 c =
     let h = c .before .before .before .before in
     let a = (Begun h) .args in
     lent-full (cutOf (a .settings) (a .selection) (a .file .now)) (a .out .now) _ (cut-gives (a .settings) (a .file .now) (file-bytes h) (said h) (was-read h) (a .selection) (is-good h))
     (omega (arith, written-long (a .settings) (a .file .now) (file-bytes h) (said h) (was-read h) (a .selection), leb-false (needed h) (length (a .out .now)) (sym (c .before .has-room .ensures) ∙ not-true _ (c .if2 .taken))))
-
-write-cut-requires : tie.Need-write-cut-requires
-write-cut-requires c κs =
-    let h = c .before .before .before .before .before in
-    let a = (Begun h) .args in (
-      start-there (a .settings) (a .file .now) (file-bytes h) (said h) (was-read h),
-      heads-there (a .settings) (a .file .now) (file-bytes h) (said h) (was-read h),
-      few h,
-      leb-true (needed h) (length (a .out .now)) (sym (c .before .before .has-room .ensures) ∙ not-false _ (c .before .if2 .left)),
-    )
 
 returns-3 : tie.Need-returns-3
 returns-3 c =
@@ -91,6 +75,22 @@ returns-4 c =
     lent-written (cutOf (a .settings) (a .selection) (a .file .now)) (a .out .now) _ (w .result) (w .last .1 .1 .1 .1 .0) (cut-gives (a .settings) (a .file .now) (file-bytes h) (said h) (was-read h) (a .selection) (is-good h))
     (w .ensures .0 ∙ sym l) (omega (arith, l, leb-true (needed h) (length (a .out .now)) (sym (c .before .before .before .before .before .has-room .ensures) ∙ not-false _ (c .before .before .before .before .if2 .left))))
     (w .ensures .1 ∙ ap (λ n. written (a .settings) (a .file .now) (file-bytes h) (said h) (was-read h) (a .selection) ++ drop n (a .out .now)) (sym (w .ensures .0)))
+
+has-room-requires : tie.Need-has-room-requires
+has-room-requires c κs =
+    let h = c .before .before in
+    let a = (Begun h) .args in
+    (start-there (a .settings) (a .file .now) (file-bytes h) (said h) (was-read h), heads-there (a .settings) (a .file .now) (file-bytes h) (said h) (was-read h), few h)
+
+write-cut-requires : tie.Need-write-cut-requires
+write-cut-requires c κs =
+    let h = c .before .before .before .before .before in
+    let a = (Begun h) .args in (
+      start-there (a .settings) (a .file .now) (file-bytes h) (said h) (was-read h),
+      heads-there (a .settings) (a .file .now) (file-bytes h) (said h) (was-read h),
+      few h,
+      leb-true (needed h) (length (a .out .now)) (sym (c .before .before .has-room .ensures) ∙ not-false _ (c .before .if2 .left)),
+    )
 
 pub cut-spec : {M : Type 1} → statement M
 cut-spec =

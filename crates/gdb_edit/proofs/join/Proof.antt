@@ -41,6 +41,23 @@ joins h =
     pair-joins (a .settings) (a .first .now) (a .second .now) (summarySaid (g .0 .0)) (summarySaid (g .0 .1 .0)) (first-bytes (h .before .before .before .before .before)) (second-bytes (h .before .before .before .before))
     (ap pairMeaning (sym (g .1)) ∙ h .before .before .joinable .ensures)
 
+returns-4 : tie.Need-returns-4
+returns-4 c =
+    let h = c .before .before .before .before .before .before .before .before .before .before .before .before in
+    let a = (Begun h) .args in
+    let j = start h in
+    let q = joins h in
+    let k = c .before .before .before .before .before .before .before .copy in
+    let m = c .before .before .copy2 in
+    let f : List ℕ = take (length (a .second .now) - j) (drop j (a .second .now)) in
+    let e : f ≡ drop j (a .second .now) = take-all (length (a .second .now) - j) (drop j (a .second .now)) (omega (arith, length-drop j (a .second .now))) in
+    let w = first-over (a .first .now) (a .out .now) (k .last .1 .0) (k .result) (k .ensures .0) (k .ensures .1) in
+    lent-written (joinOf (a .settings) (a .first .now) (a .second .now)) (a .out .now) (a .first .now ++ f) (k .result + m .result) _
+    (q .0 ∙ ap (λ x. accepted (a .first .now ++ x)) (sym e))
+    (sym (more-long (a .first .now) (a .out .now) (k .last .1 .0) (k .result) (sym (k .ensures .0)) w f (m .last .1 .0) (m .result) (m .ensures .0) (m .ensures .1)))
+    (omega (arith, q .1, ap (λ x. length (a .first .now ++ x)) e, c .before .before .before .before .before .before .before .before .before .before .if1 .left, c .before .before .before .before .before .before .before .before .before .if2 .left))
+    (more-out (a .first .now) (a .out .now) (k .last .1 .0) (k .result) (sym (k .ensures .0)) w f (m .last .1 .0) (m .result) (m .ensures .0) (m .ensures .1))
+
 returns : tie.Need-returns
 returns c =
     let h = c .before .before in
@@ -48,15 +65,22 @@ returns c =
     let j = joins h in
     lent-full (joinOf (a .settings) (a .first .now) (a .second .now)) (a .out .now) _ (j .0) (omega (arith, j .1, c .if1 .taken))
 
-sub-if2-2 : tie.Need-sub-if2-2
-sub-if2-2 c = (joins (c .before .before)) .2
-
 returns-2 : tie.Need-returns-2
 returns-2 c =
     let h = c .before .before .before in
     let a = (Begun h) .args in
     let j = joins h in
     lent-full (joinOf (a .settings) (a .first .now) (a .second .now)) (a .out .now) _ (j .0) (omega (arith, j .1, j .2, c .before .if1 .left, c .if2 .taken))
+
+returns-3 : tie.Need-returns-3
+returns-3 c =
+    let a = c .before .before .before .before .before .before .before .args in
+    let g = c .before .n .given in
+    lent-refused (joinOf (a .settings) (a .first .now) (a .second .now)) (a .out .now) (g .0 .0)
+    (pair-refused (a .settings) (a .first .now) (a .second .now) (g .0 .0) (first-bytes (c .before .before .before .before .before .before)) (second-bytes (c .before .before .before .before .before)) (ap pairMeaning (sym (g .1)) ∙ c .before .before .before .joinable .ensures))
+
+sub-if2-2 : tie.Need-sub-if2-2
+sub-if2-2 c = (joins (c .before .before)) .2
 
 sub-copy : tie.Need-sub-copy
 sub-copy c = (joins (c .before .before .before .before .before .before .before)) .2
@@ -78,30 +102,6 @@ add-t15 c =
       c .before .before .before .before .before .before .before .before .before .before .if1 .left,
       c .before .before .before .before .before .before .before .before .before .if2 .left,
     )
-
-returns-3 : tie.Need-returns-3
-returns-3 c =
-    let a = c .before .before .before .before .before .before .before .args in
-    let g = c .before .n .given in
-    lent-refused (joinOf (a .settings) (a .first .now) (a .second .now)) (a .out .now) (g .0 .0)
-    (pair-refused (a .settings) (a .first .now) (a .second .now) (g .0 .0) (first-bytes (c .before .before .before .before .before .before)) (second-bytes (c .before .before .before .before .before)) (ap pairMeaning (sym (g .1)) ∙ c .before .before .before .joinable .ensures))
-
-returns-4 : tie.Need-returns-4
-returns-4 c =
-    let h = c .before .before .before .before .before .before .before .before .before .before .before .before in
-    let a = (Begun h) .args in
-    let j = start h in
-    let q = joins h in
-    let k = c .before .before .before .before .before .before .before .copy in
-    let m = c .before .before .copy2 in
-    let f : List ℕ = take (length (a .second .now) - j) (drop j (a .second .now)) in
-    let e : f ≡ drop j (a .second .now) = take-all (length (a .second .now) - j) (drop j (a .second .now)) (omega (arith, length-drop j (a .second .now))) in
-    let w = first-over (a .first .now) (a .out .now) (k .last .1 .0) (k .result) (k .ensures .0) (k .ensures .1) in
-    lent-written (joinOf (a .settings) (a .first .now) (a .second .now)) (a .out .now) (a .first .now ++ f) (k .result + m .result) _
-    (q .0 ∙ ap (λ x. accepted (a .first .now ++ x)) (sym e))
-    (sym (more-long (a .first .now) (a .out .now) (k .last .1 .0) (k .result) (sym (k .ensures .0)) w f (m .last .1 .0) (m .result) (m .ensures .0) (m .ensures .1)))
-    (omega (arith, q .1, ap (λ x. length (a .first .now ++ x)) e, c .before .before .before .before .before .before .before .before .before .before .if1 .left, c .before .before .before .before .before .before .before .before .before .if2 .left))
-    (more-out (a .first .now) (a .out .now) (k .last .1 .0) (k .result) (sym (k .ensures .0)) w f (m .last .1 .0) (m .result) (m .ensures .0) (m .ensures .1))
 
 pub join-spec : {M : Type 1} → statement M
 join-spec =

@@ -34,20 +34,6 @@ First g = g .before .before .before .before
 two : (g : tie.After-b) → accepted (summarySaid (g .b .given .0 .0)) ≡ readSeen (read (Begun (First g) .args .settings) (Begun (First g) .args .second .now))
 two g = ap readingMeaning (sym (g .b .given .1)) ∙ g .before .before .read2 .ensures
 
-slice-aggregate-same : tie.Need-slice-aggregate-same
-slice-aggregate-same c =
-    let g = c .before .before in
-    let h = First g in
-    let a = (Begun h) .args in
-    sym (length-take-le _ (a .first .now) (first-start (a .settings) (a .first .now) (a .second .now) (first-bytes h) (second-bytes h) _ _ (one h) (two g)))
-
-slice-aggregate-same-2 : tie.Need-slice-aggregate-same-2
-slice-aggregate-same-2 c =
-    let g = c .before .before .before in
-    let h = First g in
-    let a = (Begun h) .args in
-    sym (length-take-le _ (a .second .now) (second-start (a .settings) (a .first .now) (a .second .now) (first-bytes h) (second-bytes h) _ _ (one h) (two g)))
-
 returns : tie.Need-returns
 returns c =
     let g = c .before .before .before .before .before in
@@ -55,20 +41,6 @@ returns c =
     let a = (Begun h) .args in
     pair-differs (a .settings) (a .first .now) (a .second .now) (first-bytes h) (second-bytes h) _ _ (one h) (two g)
     (λ e. let z : _≡_ {A = Bool} true false = sym (c .before .same .ensures .1 e) ∙ not-true _ (c .if1 .taken) in clash (cc))
-
-sub-if2 : tie.Need-sub-if2
-sub-if2 c =
-    let g = c .before .before .before .before .before in
-    let h = First g in
-    let a = (Begun h) .args in
-    first-short (a .settings) (a .first .now) (a .second .now) (first-bytes h) (second-bytes h) _ _ (one h) (two g)
-
-sub-if2-2 : tie.Need-sub-if2-2
-sub-if2-2 c =
-    let g = c .before .before .before .before .before in
-    let h = First g in
-    let a = (Begun h) .args in
-    second-start (a .settings) (a .first .now) (a .second .now) (first-bytes h) (second-bytes h) _ _ (one h) (two g)
 
 returns-2 : tie.Need-returns-2
 returns-2 c =
@@ -101,6 +73,34 @@ returns-5 c =
     let s = first-short (a .settings) (a .first .now) (a .second .now) (first-bytes h) (second-bytes h) _ _ (one h) (two g) in
     pair-sound (a .settings) (a .first .now) (a .second .now) (first-bytes h) (second-bytes h) _ _ (one h) (two g)
     (c .before .before .same .ensures .0 (not-false _ (c .before .if1 .left))) (omega (arith, s, c .if2 .left))
+
+slice-aggregate-same : tie.Need-slice-aggregate-same
+slice-aggregate-same c =
+    let g = c .before .before in
+    let h = First g in
+    let a = (Begun h) .args in
+    sym (length-take-le _ (a .first .now) (first-start (a .settings) (a .first .now) (a .second .now) (first-bytes h) (second-bytes h) _ _ (one h) (two g)))
+
+slice-aggregate-same-2 : tie.Need-slice-aggregate-same-2
+slice-aggregate-same-2 c =
+    let g = c .before .before .before in
+    let h = First g in
+    let a = (Begun h) .args in
+    sym (length-take-le _ (a .second .now) (second-start (a .settings) (a .first .now) (a .second .now) (first-bytes h) (second-bytes h) _ _ (one h) (two g)))
+
+sub-if2 : tie.Need-sub-if2
+sub-if2 c =
+    let g = c .before .before .before .before .before in
+    let h = First g in
+    let a = (Begun h) .args in
+    first-short (a .settings) (a .first .now) (a .second .now) (first-bytes h) (second-bytes h) _ _ (one h) (two g)
+
+sub-if2-2 : tie.Need-sub-if2-2
+sub-if2-2 c =
+    let g = c .before .before .before .before .before in
+    let h = First g in
+    let a = (Begun h) .args in
+    second-start (a .settings) (a .first .now) (a .second .now) (first-bytes h) (second-bytes h) _ _ (one h) (two g)
 
 pub joinable-spec : {M : Type 1} → statement M
 joinable-spec =

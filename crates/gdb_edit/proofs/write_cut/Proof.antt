@@ -57,7 +57,7 @@ loop-again c =
     let l = h .loop in
     let n = c .before .before .before .before .before .before .before .before .head .given .0 .1 .0 - l .at in
     let f : List ℕ = take n (drop (l .at) (a .file .now)) in
-    let long : length f ≡ n = part-long p (meaning (a .selection)) in
+    let long : length f ≡ n = part-long p in
     let k = h .before .before .before .copy in
     let m = c .before .before .copy2 in (
       p .inside,
