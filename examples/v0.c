@@ -14,6 +14,16 @@ enum { FRAME_HEAD = 6, BLOCK = 776, V0 = 264, V0_SIZE = 16 };
 
 static const tfk_settings LITTLE = {0};
 
+/* A library of another interface would take these structs for others. */
+static void demand_fit(void)
+{
+    if (!TFK_FITS()) {
+        fprintf(stderr, "the library's interface has the number %llu, the header's %d\n",
+                (unsigned long long)tfk_interface(), TFK_INTERFACE);
+        exit(2);
+    }
+}
+
 static void *room_for(size_t size)
 {
     void *room = malloc(size > 0 ? size : 1);
@@ -80,6 +90,7 @@ int main(int argc, char **argv)
         fprintf(stderr, "usage: %s TRACE\n", argv[0]);
         return 2;
     }
+    demand_fit();
     size_t length;
     uint8_t *file = contents(argv[1], &length);
     tfk_count count = tfk_frame_count(LITTLE, file, length);

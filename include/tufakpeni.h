@@ -7,6 +7,8 @@
  *
  * `refusal` is 0 where the call answers, and else one of the numbers below; every other field is then 0, and a lent
  * output is unchanged. Lines, frames, blocks and CPUs count from 0. A place counts bytes from the file's start.
+ *
+ * A library that was made from another header reads and writes other structs: ask TFK_FITS() before the first call.
  */
 #ifndef TUFAKPENI_H
 #define TUFAKPENI_H
@@ -17,6 +19,15 @@
 #ifdef __cplusplus
 extern "C" {
 #endif
+
+/* The number of this interface. It changes with every struct, call and number of this header. */
+#define TFK_INTERFACE 1
+
+/* The number of the library's interface. */
+uint64_t tfk_interface(void);
+
+/* Whether the library is one of this header. */
+#define TFK_FITS() (tfk_interface() == TFK_INTERFACE)
 
 /* The refusals. */
 enum {

@@ -49,25 +49,25 @@ static int same_block(tfk_block one, tfk_block other)
 
 int is_registers(tfk_block answer, size_t place)
 {
-    tfk_block expected = {0, 'R', 0, place, 0, 0, 0};
+    tfk_block expected = {.letter = 'R', .place = place};
     return same_block(answer, expected);
 }
 
 int is_memory(tfk_block answer, size_t place, uint64_t address, size_t length)
 {
-    tfk_block expected = {0, 'M', 0, place, address, length, 0};
+    tfk_block expected = {.letter = 'M', .place = place, .address = address, .length = length};
     return same_block(answer, expected);
 }
 
 int is_variable(tfk_block answer, size_t place, uint32_t number, int64_t value)
 {
-    tfk_block expected = {0, 'V', number, place, 0, 0, value};
+    tfk_block expected = {.letter = 'V', .number = number, .place = place, .value = value};
     return same_block(answer, expected);
 }
 
 int no_block(tfk_block answer, uint8_t refusal)
 {
-    tfk_block expected = {refusal, 0, 0, 0, 0, 0, 0};
+    tfk_block expected = {.refusal = refusal};
     return same_block(answer, expected);
 }
 

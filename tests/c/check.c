@@ -86,3 +86,10 @@ void put_number(made *file, uint64_t value, size_t width)
     }
     put(file, bytes, width);
 }
+
+void fill_to(made *file, size_t length)
+{
+    while (file->length < length) {
+        PUT(file, "\0");
+    }
+}

@@ -30,6 +30,8 @@ typedef struct {
 } made;
 void put(made *file, const char *bytes, size_t length);
 void put_number(made *file, uint64_t value, size_t width);
+/* Zeros up to this length. */
+void fill_to(made *file, size_t length);
 /* A string's bytes without the closing NUL. */
 #define PUT(file, text) put((file), (text), sizeof(text) - 1)
 

@@ -1,47 +1,13 @@
 /* trace.dat headers: each at every length, and faults at every place where document 01 names one. */
 #include "answers.h"
 #include "check.h"
+#include "dats.h"
 #include "edges.h"
 
 #include <stdlib.h>
 #include <string.h>
 
-enum { PAGE = 1024, PAGE_SIZE_END = 18, SMALLEST = 97, LATENCY_END = 97 };
-
-/* A fault of the fields that are fixed or limited; what is 0 stands for what is right. */
-typedef struct {
-    uint8_t flag;
-    uint8_t long_size;
-    uint32_t page_size;
-    uint64_t header_page_size;
-    uint32_t format_count;
-    uint32_t system_count;
-    uint32_t kallsyms_size;
-    uint64_t processes_size;
-    uint32_t cpu_count;
-} fault;
-
-/* The header up to its CPU count, with all its sections empty. */
-static made start(uint8_t order, fault given)
-{
-    made file = {order, 0, {0}};
-    PUT(&file, "\x17\x08\x44tracing6");
-    put_number(&file, 0, 1);
-    put_number(&file, given.flag ? given.flag : order, 1);
-    put_number(&file, given.long_size ? given.long_size : 8, 1);
-    put_number(&file, given.page_size ? given.page_size : PAGE, 4);
-    put(&file, "header_page", 12);
-    put_number(&file, given.header_page_size, 8);
-    put(&file, "header_event", 13);
-    put_number(&file, 0, 8);
-    put_number(&file, given.format_count, 4);
-    put_number(&file, given.system_count, 4);
-    put_number(&file, given.kallsyms_size, 4);
-    put_number(&file, 0, 4);
-    put_number(&file, given.processes_size, 8);
-    put_number(&file, given.cpu_count, 4);
-    return file;
-}
+enum { SMALLEST = 97, LATENCY_END = 97 };
 
 /* Any file of this length is refused so, by both calls and with all else 0. */
 static void refused(const made *file, size_t length, uint8_t refusal)
@@ -128,58 +94,10 @@ static void latency(uint8_t order)
     end();
 }
 
-static void sized(made *file, const char *text, size_t width)
-{
-    put_number(file, strlen(text), width);
-    put(file, text, strlen(text));
-}
-
-/* A header in which no section is empty, up to the entries of its two CPUs. */
-static made full_header(uint8_t order)
-{
-    made file = start(order, (fault){.long_size = 4});
-    file.length = PAGE_SIZE_END;
-    put(&file, "header_page", 12);
-    sized(&file, "page", 8);
-    put(&file, "header_event", 13);
-    sized(&file, "event", 8);
-    put_number(&file, 2, 4);
-    sized(&file, "one", 8);
-    sized(&file, "", 8);
-    put_number(&file, 1, 4);
-    put(&file, "sched", 6);
-    put_number(&file, 1, 4);
-    sized(&file, "switch", 8);
-    sized(&file, "symbols", 4);
-    sized(&file, "prints", 4);
-    sized(&file, "names", 8);
-    put_number(&file, 2, 4);
-    put(&file, "options  ", 10);
-    put_number(&file, 4, 2);
-    sized(&file, "clock", 4);
-    put_number(&file, 65535, 2);
-    sized(&file, "", 4);
-    put_number(&file, 0, 2);
-    put(&file, "flyrecord", 10);
-    return file;
-}
-
-static void fill_to(made *file, size_t length)
-{
-    while (file->length < length) {
-        PUT(file, "\0");
-    }
-}
-
 /* CPU 0 has three bytes of a page, CPU 1 nothing: its offset is not looked at. */
 static void every_section(uint8_t order)
 {
-    tfk_dat_summary expected = {
-        .order = order, .long_size = 4, .ending = TFK_ENDING_FLYRECORD, .page_size = PAGE, .format_count = 2,
-        .system_count = 1, .cpu_count = 2, .header_page = {38, 4}, .header_event = {63, 5}, .formats = {72, 19},
-        .systems = {95, 24}, .kallsyms = {123, 7}, .printk = {134, 6}, .processes = {148, 5}, .options = {167, 19},
-        .body = {196, 32},
-    };
+    tfk_dat_summary expected = full_summary(order);
     made file = full_header(order);
     begin("every section");
     put_number(&file, PAGE, 8);

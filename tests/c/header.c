@@ -5,5 +5,5 @@ int main(void)
 {
     tfk_settings little = {0};
     uint8_t none = 0;
-    return tfk_frame_count(little, &none, 0).refusal == TFK_BAD_HEAD ? 0 : 1;
+    return TFK_FITS() && tfk_frame_count(little, &none, 0).refusal == TFK_BAD_HEAD ? 0 : 1;
 }

@@ -1,4 +1,4 @@
-"""Where the repository's files are; makes its Python module importable."""
+"""Where the repository's files are; makes its Python module importable, and the tests' reading of its header."""
 import pathlib
 import sys
 
@@ -6,4 +6,4 @@ ROOT = pathlib.Path(__file__).resolve().parents[2]
 MODULE = ROOT / 'bindings/python'
 EXPECTED = pathlib.Path(__file__).resolve().parent / 'expected'
 
-sys.path.insert(0, str(MODULE))
+sys.path[:0] = [str(MODULE), str(ROOT / 'tests/interface')]

@@ -1,14 +1,16 @@
 """The module declares what the header declares, and says how to make the library where it is missing."""
 import ctypes
 import os
-import re
 import subprocess
 import sys
 import unittest
 
 from cases import Case
-from repository import MODULE, ROOT
+from repository import MODULE
 from tufakpeni import _library
+
+import header
+import layout
 
 TYPES = {
     'uint8_t': ctypes.c_uint8, 'uint16_t': ctypes.c_uint16, 'uint32_t': ctypes.c_uint32, 'uint64_t': ctypes.c_uint64,
@@ -21,37 +23,48 @@ STRUCTS = {
 }
 
 
-def header():
-    text = (ROOT / 'include/tufakpeni.h').read_text()
-    return re.sub(r'/\*.*?\*/', '', text, flags=re.S)
-
-
 def declared(kind):
     """The module's type for a type of the header."""
+    name, _, length = kind.rstrip(']').partition('[')
+    if length:
+        return declared(name) * int(length)
     if '*' in kind:
         return ctypes.c_void_p
-    if kind in TYPES:
-        return TYPES[kind]
-    return getattr(_library, STRUCTS[kind[len('tfk_'):]])
+    return TYPES.get(kind) or getattr(_library, STRUCTS[kind[len('tfk_'):]])
+
+
+def lines(struct, name):
+    """A struct of the module and its fields, in the words of the stored layouts but for the types."""
+    kind = getattr(_library, name)
+    yield f'struct tfk_{struct} {ctypes.sizeof(kind)}'
+    for field, _ in kind._fields_:
+        yield f'field tfk_{struct} {field} {getattr(kind, field).offset} {getattr(kind, field).size}'
 
 
 class Header(Case):
     def test_structs(self):
-        found = re.findall(r'typedef struct \{(.*?)\} tfk_(\w+);', header(), re.S)
-        self.assertEqual({name for _, name in found}, set(STRUCTS))
-        for body, name in found:
-            fields = []
-            for kind, field, length in re.findall(r'(\w+) (\w+)(?:\[(\d+)\])?;', body):
-                fields.append((field, declared(kind) * int(length) if length else declared(kind)))
-            self.assertEqual(getattr(_library, STRUCTS[name])._fields_, fields, name)
+        found = header.read().structs
+        self.assertEqual(set(found), {f'tfk_{name}' for name in STRUCTS})
+        for name, fields in found.items():
+            self.assertEqual(declared(name)._fields_, [(field, declared(kind)) for field, kind in fields], name)
+
+    def test_every_struct_of_the_module_is_in_the_header(self):
+        kinds = [name for name, value in vars(_library).items()
+                 if isinstance(value, type) and issubclass(value, ctypes.Structure)]
+        self.assertEqual(sorted(kinds), sorted(STRUCTS.values()))
+
+    def test_layout(self):
+        stored = layout.stored(_library.INTERFACE).read_text().splitlines()
+        about_structs = [' '.join(line.split()[:5]) for line in stored if line.startswith(('struct ', 'field '))]
+        self.assertEqual([line for names in STRUCTS.items() for line in lines(*names)], about_structs)
 
     def test_calls(self):
-        found = {}
-        for answer, name, arguments in re.findall(r'^(tfk_\w+) (tfk_\w+)\((.*?)\);', header(), re.M | re.S):
-            kinds = [re.sub(r'\w+$', '', argument.replace('const', '').strip()).strip()
-                     for argument in arguments.split(',')]
-            found[name] = (declared(answer), *map(declared, kinds))
+        found = {name: (declared(answer), *(declared(kind) for _, kind in parameters))
+                 for name, (answer, parameters) in header.read().calls.items()}
         self.assertEqual(_library.CALLS, found)
+
+    def test_number(self):
+        self.assertEqual(_library.INTERFACE, header.read().number)
 
 
 class Missing(Case):

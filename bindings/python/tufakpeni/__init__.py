@@ -6,7 +6,7 @@
 
 What is handed out are parts of the caller's bytes, not copies. A file or a question that the library refuses raises
 Refused, with the number and the sentence of document 01's table."""
-from ._library import LibraryMissing
+from ._library import LibraryMissing, LibraryUnfit
 from .dat import CpuRange, Section, TraceDat
 from .edit import Selection, cut, cut_into, join, join_into
 from .pair import Pair, PairFrame
@@ -14,6 +14,6 @@ from .refusal import Refusal, Refused
 from .trace import Frame, Line, Memory, Registers, Trace, Variable
 
 __all__ = [
-    'CpuRange', 'Frame', 'LibraryMissing', 'Line', 'Memory', 'Pair', 'PairFrame', 'Refusal', 'Refused', 'Registers',
-    'Section', 'Selection', 'Trace', 'TraceDat', 'Variable', 'cut', 'cut_into', 'join', 'join_into',
+    'CpuRange', 'Frame', 'LibraryMissing', 'LibraryUnfit', 'Line', 'Memory', 'Pair', 'PairFrame', 'Refusal', 'Refused',
+    'Registers', 'Section', 'Selection', 'Trace', 'TraceDat', 'Variable', 'cut', 'cut_into', 'join', 'join_into',
 ]

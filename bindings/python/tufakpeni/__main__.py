@@ -4,7 +4,7 @@ import signal
 import sys
 
 from . import view
-from ._library import ORDERS, LibraryMissing
+from ._library import ORDERS, LibraryMissing, LibraryUnfit
 from .dat import MAGIC, TraceDat
 from .refusal import Refused
 from .trace import Trace
@@ -63,7 +63,7 @@ def main():
         sys.stdout.flush()
         print(refused, file=sys.stderr)
         return REFUSED
-    except (OSError, LibraryMissing) as error:
+    except (OSError, LibraryMissing, LibraryUnfit) as error:
         print(error, file=sys.stderr)
         return UNREADABLE
     return 0

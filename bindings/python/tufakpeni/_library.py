@@ -13,16 +13,24 @@ from .refusal import Refused
 VARIABLE = 'TUFAKPENI_LIBRARY'
 NAME = 'libtufakpeni.so'
 
-MISSING = f"""there is no {NAME}: {{place}} is not there.
-Make it in the repository's root by
+# The number of the interface that is declared here, as include/tufakpeni.h had it.
+INTERFACE = 1
+
+MAKE = f"""Make it in the repository's root by
     rt staticlib trace_c
     gcc -shared -o bindings/python/tufakpeni/{NAME} \\
         -Wl,--whole-archive target/staticlib/libtrace_c.a -Wl,--no-whole-archive
 or name its place in the environment variable {VARIABLE}."""
+MISSING = f'there is no {NAME}: {{place}} is not there.\n{MAKE}'
+UNFIT = f"{{place}} has {{found}}, and this module needs the interface of number {INTERFACE}.\n{MAKE}"
 
 
 class LibraryMissing(ImportError):
     """The shared library is not where it should be."""
+
+
+class LibraryUnfit(ImportError):
+    """The shared library has another interface than this module: it would take one struct for another."""
 
 
 def struct(name, **fields):
@@ -55,6 +63,7 @@ TRACES = (Settings, *BYTES, *BYTES)
 
 # Each call's answer and its arguments.
 CALLS = {
+    'tfk_interface': (c_uint64,),
     'tfk_frame_count': (Count, *TRACE),
     'tfk_frame_table': (Count, *TRACE, *BYTES),
     'tfk_line_place': (Line, *TRACE, c_size_t),
@@ -89,10 +98,26 @@ def library():
         raise LibraryMissing(MISSING.format(place=place()))
     # PyDLL keeps Python's lock: the library tests a file and then trusts it, so no thread may change it during a call.
     loaded = ctypes.PyDLL(str(place().resolve()))
-    for name, (answer, *arguments) in CALLS.items():
-        function = getattr(loaded, name)
-        function.restype, function.argtypes = answer, arguments
+    demand_fit(loaded)
+    for name in CALLS:
+        declare(loaded, name)
     return loaded
+
+
+def declare(loaded, name):
+    function = getattr(loaded, name)
+    function.restype, *function.argtypes = CALLS[name]
+    return function
+
+
+def demand_fit(loaded):
+    """Raises LibraryUnfit where the library's interface is another, or older than its number."""
+    try:
+        number = declare(loaded, 'tfk_interface')()
+    except AttributeError:
+        raise LibraryUnfit(UNFIT.format(place=place(), found='no number of its interface')) from None
+    if number != INTERFACE:
+        raise LibraryUnfit(UNFIT.format(place=place(), found=f'the interface of number {number}'))
 
 
 def call(name, *arguments):

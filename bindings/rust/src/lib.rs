@@ -6,6 +6,8 @@
 //! A GDB trace does not record its byte order, so the caller gives an [`Order`]. Lines, frames, blocks and CPUs count from 0, and
 //! a place counts bytes from the file's start. What cannot be answered is a [`Refusal`], which knows its number and its sentence.
 //!
+//! The archive that is linked must have this crate's interface. Where it has another, the first call panics with both numbers.
+//!
 //! ```
 //! use tufakpeni::{Order, Trace};
 //!

@@ -2,7 +2,9 @@
 //!
 //! Each call is sound for the same reasons: a slice's pointer and length name bytes that live as long as the call, an output is lent
 //! alone (`&mut`) so that it overlaps no file, every bit pattern of an answer is a value of its type, and the library keeps no pointer.
+//! The library's interface is asked for its number before the first of them.
 use crate::{Order, Refusal};
+use std::sync::OnceLock;
 
 #[repr(C)]
 struct Settings {
@@ -120,7 +122,42 @@ pub struct CpuRange {
     pub size: u64,
 }
 
+/// The number of the interface that is declared here, as include/tufakpeni.h had it.
+const INTERFACE: u64 = 1;
+
 extern "C" {
+    fn tfk_interface() -> u64;
+}
+
+/// Ends with both numbers where the library has another interface: it would take and answer structs of another layout.
+fn demand_fit() {
+    static FITS: OnceLock<()> = OnceLock::new();
+    FITS.get_or_init(|| {
+        // SAFETY: no struct and no pointer crosses, and every interface has this call.
+        let number = unsafe { tfk_interface() };
+        assert!(number == INTERFACE, "the library's interface has the number {number}, this crate's {INTERFACE}");
+    });
+}
+
+/// Declares the library's functions. Each can be called only through one of the same name that first asks whether the library fits.
+macro_rules! calls {
+    ($(fn $name:ident($($given:ident: $kind:ty),* $(,)?) -> $answer:ty;)*) => {
+        mod unasked {
+            use super::*;
+
+            extern "C" {
+                $(pub fn $name($($given: $kind),*) -> $answer;)*
+            }
+        }
+
+        $(unsafe fn $name($($given: $kind),*) -> $answer {
+            demand_fit();
+            unasked::$name($($given),*)
+        })*
+    };
+}
+
+calls! {
     fn tfk_frame_count(settings: Settings, file: *const u8, file_length: usize) -> Count;
     fn tfk_frame_table(
         settings: Settings,
@@ -264,3 +301,7 @@ pub fn dat_read(file: &[u8]) -> Result<DatSummary, Refusal> {
 pub fn dat_cpu_range(file: &[u8], i: usize) -> Result<CpuRange, Refusal> {
     unsafe { tfk_dat_cpu_range(file.as_ptr(), file.len(), i) }.answered()
 }
+
+#[cfg(test)]
+#[path = "../../../tests/interface/layout.rs"]
+mod layout;

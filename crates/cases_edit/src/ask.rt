@@ -17,7 +17,7 @@ pub struct Case {
     pub order: u8,
 }
 
-pub fn start() -> Case {
+pub(crate) fn start() -> Case {
     Case {
         first: file::empty(),
         second: file::empty(),
@@ -75,7 +75,7 @@ fn pair(case: Case, is_variable: bool, n: usize, number: u32) {
 }
 
 // The case after a call with the number n.
-pub fn asked(case: Case, t: &[u8], n: Number) -> Case {
+pub(crate) fn asked(case: Case, t: &[u8], n: Number) -> Case {
     let mut now = case;
     let second = table::number_after(t, n.next);
     let k = n.value as usize;

@@ -8,7 +8,7 @@ pub struct File {
     pub len: usize,
 }
 
-pub fn empty() -> File {
+pub(crate) fn empty() -> File {
     File {
         bytes: [0; 128],
         len: 0,
@@ -49,7 +49,7 @@ fn with_piece(f: File, a: u8, b: u8) -> File {
 }
 
 // The file that a line of pieces describes. What stands in quotes is taken as it is.
-pub fn file_of(t: &[u8]) -> File {
+pub(crate) fn file_of(t: &[u8]) -> File {
     let mut f = empty();
     let mut quoted = false;
     let mut k: usize = 0;

@@ -5,7 +5,7 @@ use gdb_edit::Selection;
 use gdb_pair::PairPlace;
 use libc::STDOUT_FILENO;
 
-pub fn text(t: &[u8]) {
+pub(crate) fn text(t: &[u8]) {
     io::write_all(STDOUT_FILENO, t);
 }
 
@@ -24,7 +24,7 @@ fn signed(v: i64) {
     }
 }
 
-pub fn value(answer: ValueAnswer) {
+pub(crate) fn value(answer: ValueAnswer) {
     match answer {
         ValueAnswer::Value(v) => signed(v),
         ValueAnswer::Refused(n) => number(b": refused ", n as u64),
@@ -37,7 +37,7 @@ fn byte(b: u8) {
 }
 
 // Bytes in brackets, so that none shows.
-pub fn bytes(part: &[u8]) {
+pub(crate) fn bytes(part: &[u8]) {
     text(b" [");
     let mut k: usize = 0;
     while k < part.len() {
@@ -47,14 +47,14 @@ pub fn bytes(part: &[u8]) {
     text(b" ]");
 }
 
-pub fn edit(answer: EditAnswer) {
+pub(crate) fn edit(answer: EditAnswer) {
     match answer {
         EditAnswer::Written(n) => number(b": written ", n as u64),
         EditAnswer::Refused(n) => number(b": refused ", n as u64),
     }
 }
 
-pub fn place(answer: PairPlace) {
+pub(crate) fn place(answer: PairPlace) {
     match answer {
         PairPlace::First { place, length } => {
             number(b": first, place ", place as u64);
@@ -71,7 +71,7 @@ pub fn place(answer: PairPlace) {
 }
 
 // All eight ranges, stated or not.
-pub fn selection(selection: Selection) {
+pub(crate) fn selection(selection: Selection) {
     if selection.keep {
         text(b": keep");
     } else {

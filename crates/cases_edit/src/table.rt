@@ -4,7 +4,7 @@ use gdb_edit::Range;
 use gdb_edit::Selection;
 
 // Byte k; 0 past the end.
-pub fn byte(t: &[u8], k: usize) -> u8 {
+pub(crate) fn byte(t: &[u8], k: usize) -> u8 {
     if k < t.len() {
         return t[k];
     }
@@ -12,7 +12,7 @@ pub fn byte(t: &[u8], k: usize) -> u8 {
 }
 
 // What stands from place k on, up to `end`; nothing where that is no part.
-pub fn part(t: &[u8], k: usize, end: usize) -> &[u8] {
+pub(crate) fn part(t: &[u8], k: usize, end: usize) -> &[u8] {
     if end <= t.len() {
         if k <= end {
             return &t[k..end];
@@ -22,7 +22,7 @@ pub fn part(t: &[u8], k: usize, end: usize) -> &[u8] {
 }
 
 // The place of the first 0A from `from` on, or the end.
-pub fn line_end(t: &[u8], from: usize) -> usize
+pub(crate) fn line_end(t: &[u8], from: usize) -> usize
     ensures { λ r. ⌜ from ≤ r ⌝ }
 {
     let mut k = from;
@@ -36,7 +36,7 @@ pub fn line_end(t: &[u8], from: usize) -> usize
 }
 
 // A decimal digit's value, or a hexadecimal one's; 16 for other bytes.
-pub fn digit(b: u8) -> u8
+pub(crate) fn digit(b: u8) -> u8
     ensures { λ r. ⌜ r ≤ 16 ⌝ }
 {
     match b {
@@ -53,7 +53,7 @@ pub struct Number {
 }
 
 // The first decimal number from `from` on. One above 2^64 - 1 is no case of the table.
-pub fn number_after(t: &[u8], from: usize) -> Number {
+pub(crate) fn number_after(t: &[u8], from: usize) -> Number {
     let mut value: u64 = 0;
     let mut found = false;
     let mut k = from;
@@ -71,7 +71,7 @@ pub fn number_after(t: &[u8], from: usize) -> Number {
 }
 
 // The selection that a line states: the count, then the ranges.
-pub fn selection_of(keep: bool, t: &[u8]) -> Selection {
+pub(crate) fn selection_of(keep: bool, t: &[u8]) -> Selection {
     let count = number_after(t, 0);
     let mut at = count.next;
     let mut ranges = [Range { low: 0, high: 0 }; 8];

@@ -34,7 +34,7 @@ fn frames(low: usize) -> [u8; 116] {
 }
 
 // 16 frames fit; 17 do not; with 5 bytes behind them the file's own refusal comes first.
-pub fn cases(order: u8) {
+pub(crate) fn cases(order: u8) {
     let all = frames(order as usize);
     show::case(b"16 frames", order, &all[..105]);
     show::case(b"17 frames", order, &all[..111]);

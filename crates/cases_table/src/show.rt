@@ -64,7 +64,7 @@ fn records(all: [FrameRecord; 16]) {
     }
 }
 
-pub fn case(name: &[u8], order: u8, file: &[u8]) {
+pub(crate) fn case(name: &[u8], order: u8, file: &[u8]) {
     text(name);
     text(b", order ");
     number(order as u64);

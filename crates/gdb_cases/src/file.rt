@@ -10,14 +10,14 @@ pub struct File {
     pub len: usize,
 }
 
-pub fn empty() -> File {
+pub(crate) fn empty() -> File {
     File {
         bytes: [0; 256],
         len: 0,
     }
 }
 
-pub fn with_byte(f: File, b: u8) -> File {
+pub(crate) fn with_byte(f: File, b: u8) -> File {
     let n = f.len;
     let mut bytes = f.bytes;
     if n < ROOM {
@@ -31,7 +31,7 @@ pub fn with_byte(f: File, b: u8) -> File {
 }
 
 // Numbers, in the byte order of the case: 1 is big, every other little.
-pub fn with_u16(f: File, order: u8, x: u16) -> File {
+pub(crate) fn with_u16(f: File, order: u8, x: u16) -> File {
     let low = (x % 256) as u8;
     let high = (x / 256) as u8;
     if order == 1 {
@@ -40,7 +40,7 @@ pub fn with_u16(f: File, order: u8, x: u16) -> File {
     with_byte(with_byte(f, low), high)
 }
 
-pub fn with_u32(f: File, order: u8, x: u32) -> File {
+pub(crate) fn with_u32(f: File, order: u8, x: u32) -> File {
     let low = (x % 65536) as u16;
     let high = (x / 65536) as u16;
     if order == 1 {
@@ -49,7 +49,7 @@ pub fn with_u32(f: File, order: u8, x: u32) -> File {
     with_u16(with_u16(f, order, low), order, high)
 }
 
-pub fn with_u64(f: File, order: u8, x: u64) -> File {
+pub(crate) fn with_u64(f: File, order: u8, x: u64) -> File {
     let low = (x % 4294967296) as u32;
     let high = (x / 4294967296) as u32;
     if order == 1 {
@@ -59,7 +59,7 @@ pub fn with_u64(f: File, order: u8, x: u64) -> File {
 }
 
 // The head of every trace.
-pub fn with_head(f: File) -> File {
+pub(crate) fn with_head(f: File) -> File {
     let two = with_byte(with_byte(f, 127), b'T');
     let four = with_byte(with_byte(two, b'R'), b'A');
     let six = with_byte(with_byte(four, b'C'), b'E');
@@ -67,7 +67,7 @@ pub fn with_head(f: File) -> File {
 }
 
 // The file's first n bytes, of which it has so many.
-pub fn first(f: File, n: usize) -> File {
+pub(crate) fn first(f: File, n: usize) -> File {
     let bytes = f.bytes;
     let len = if n <= f.len { n } else { ROOM + 1 };
     File { bytes, len }

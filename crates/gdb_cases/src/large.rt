@@ -28,7 +28,7 @@ fn memory(order: u8, pieces: &[u8], len: usize) {
 }
 
 // The block ends with the frame's data and the file; then the data, and last the file, is one byte shorter.
-pub fn memories(order: u8) {
+pub(crate) fn memories(order: u8) {
     memory(order, b"+ H n w1 d65546 \"M\" q16 w65535", 65561);
     memory(order, b"+ H n w1 d65545 \"M\" q16 w65535", 65560);
     memory(order, b"+ H n w1 d65546 \"M\" q16 w65535", 65560);

@@ -5,22 +5,22 @@ use gdb_read::BlockKind;
 use gdb_read::BlockRecord;
 use libc::STDOUT_FILENO;
 
-pub fn text(t: &[u8]) {
+pub(crate) fn text(t: &[u8]) {
     io::write_all(STDOUT_FILENO, t);
 }
 
 // A word and a number.
-pub fn number(word: &[u8], n: u64) {
+pub(crate) fn number(word: &[u8], n: u64) {
     text(word);
     io::print_decimal(STDOUT_FILENO, n);
 }
 
-pub fn refused(n: u8) {
+pub(crate) fn refused(n: u8) {
     number(b" refused ", n as u64);
 }
 
 // A signed value. The lowest has no opposite, so what is printed after the sign is one more than the turned bits.
-pub fn signed(v: i64) {
+pub(crate) fn signed(v: i64) {
     if v >= 0 {
         number(b" value ", v as u64);
     } else {
@@ -34,7 +34,7 @@ fn byte(b: u8) {
 }
 
 // A part of the file, in brackets, so that an empty one shows.
-pub fn bytes(part: &[u8]) {
+pub(crate) fn bytes(part: &[u8]) {
     text(b" [");
     let mut k: usize = 0;
     while k < part.len() {
@@ -44,7 +44,7 @@ pub fn bytes(part: &[u8]) {
     text(b" ]");
 }
 
-pub fn place(answer: PlaceAnswer) {
+pub(crate) fn place(answer: PlaceAnswer) {
     match answer {
         PlaceAnswer::At { place, length } => {
             number(b" place ", place as u64);
@@ -56,7 +56,7 @@ pub fn place(answer: PlaceAnswer) {
     }
 }
 
-pub fn line_kind(kind: LineKind) {
+pub(crate) fn line_kind(kind: LineKind) {
     match kind {
         LineKind::Registers => text(b" registers"),
         LineKind::Status => text(b" status"),
@@ -67,7 +67,7 @@ pub fn line_kind(kind: LineKind) {
     }
 }
 
-pub fn block(block: BlockRecord) {
+pub(crate) fn block(block: BlockRecord) {
     number(b" place ", block.place as u64);
     let kind = block.kind;
     match kind {

@@ -10,7 +10,7 @@ use gdb_read::BlockStep;
 use gdb_read::FrameStep;
 use gdb_read::Reading;
 
-pub fn summary(settings: Settings, file: &[u8]) {
+pub(crate) fn summary(settings: Settings, file: &[u8]) {
     match gdb_read::read(settings, file) {
         Reading::Refused(n) => {
             show::refused(n);
@@ -84,7 +84,7 @@ fn at(format: Format, s: &[u8], t: &[u8]) {
 }
 
 // The questions: summary; kind, of the file as a line; and those about a place.
-pub fn question(settings: Settings, s: &[u8], t: &[u8]) {
+pub(crate) fn question(settings: Settings, s: &[u8], t: &[u8]) {
     match table::byte(t, 0) {
         b's' => summary(settings, s),
         b'k' => show::line_kind(gdb_format::line_kind(s)),

@@ -4,7 +4,7 @@ use crate::file;
 use crate::file::File;
 
 // Byte k; 0 past the end.
-pub fn byte(t: &[u8], k: usize) -> u8 {
+pub(crate) fn byte(t: &[u8], k: usize) -> u8 {
     if k < t.len() {
         return t[k];
     }
@@ -12,7 +12,7 @@ pub fn byte(t: &[u8], k: usize) -> u8 {
 }
 
 // What stands from place k on, up to `end`; nothing where that is no part.
-pub fn part(t: &[u8], k: usize, end: usize) -> &[u8] {
+pub(crate) fn part(t: &[u8], k: usize, end: usize) -> &[u8] {
     if end <= t.len() {
         if k <= end {
             return &t[k..end];
@@ -22,7 +22,7 @@ pub fn part(t: &[u8], k: usize, end: usize) -> &[u8] {
 }
 
 // The place of the first 0A from `from` on, or the end.
-pub fn line_end(t: &[u8], from: usize) -> usize
+pub(crate) fn line_end(t: &[u8], from: usize) -> usize
     ensures { λ r. ⌜ from ≤ r ⌝ }
 {
     let mut k = from;
@@ -54,7 +54,7 @@ fn digit(b: u8) -> u8
 }
 
 // The first decimal number from `from` on. One above 2^64 - 1 is no case of the table.
-pub fn number_after(t: &[u8], from: usize) -> Number {
+pub(crate) fn number_after(t: &[u8], from: usize) -> Number {
     let mut value: u64 = 0;
     let mut found = false;
     let mut k = from;
@@ -96,7 +96,7 @@ fn with_piece(f: File, order: u8, t: &[u8]) -> File {
 }
 
 // The file that a line of pieces describes. What stands in quotes is taken as it is.
-pub fn file_of(order: u8, t: &[u8]) -> File {
+pub(crate) fn file_of(order: u8, t: &[u8]) -> File {
     let mut f = file::empty();
     let mut quoted = false;
     let mut k: usize = 0;

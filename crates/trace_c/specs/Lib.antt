@@ -1,5 +1,6 @@
 pub mod Flat
 pub mod FlatDat
+pub mod Interface
 pub mod Listed
 pub mod ListedDat
 pub mod Told

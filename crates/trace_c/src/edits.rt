@@ -46,7 +46,9 @@ fn flat_selection(selection: gdb_edit::Selection) -> Selection
 pub extern "C" fn tfk_opposite(selection: Selection) -> Selection
     ensures { λ r. ⌜ r ≡ flatSelection (against (selectionIn selection)) ⌝ }
 {
-    flat_selection(gdb_edit::opposite(selection_in(selection)))
+    let given = selection_in(selection);
+    let turned = gdb_edit::opposite(given);
+    flat_selection(turned)
 }
 
 #[repr(C)]

@@ -230,7 +230,7 @@ pub struct Value {
     pub value: i64,
 }
 
-pub fn flat_value(answer: ValueAnswer) -> Value
+pub(crate) fn flat_value(answer: ValueAnswer) -> Value
     ensures { λ r. ⌜ r ≡ flatValue (valueAnswer answer) ⌝ }
 {
     match answer {

@@ -1,5 +1,8 @@
 //! The C interface, as `include/tufakpeni.h` declares it.
 
+/// The number of the interface.
+pub const INTERFACE: u64 = 1;
+
 pub const LINE_OTHER: u8 = 0;
 pub const LINE_R: u8 = 1;
 pub const LINE_STATUS: u8 = 2;
@@ -136,6 +139,7 @@ pub struct CpuRange {
 }
 
 extern "C" {
+    pub fn tfk_interface() -> u64;
     pub fn tfk_frame_count(settings: Settings, file: *const u8, file_length: usize) -> Count;
     pub fn tfk_frame_table(
         settings: Settings,
