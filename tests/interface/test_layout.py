@@ -17,6 +17,9 @@ class Layout(unittest.TestCase):
         every = layout.every_stored()
         self.assertEqual(len(set(every.values())), len(every), f'two of these are the same: {", ".join(every)}')
 
+    def test_every_number_so_far_has_its_layout(self):
+        self.assertEqual(set(layout.every_stored()), {layout.stored(n + 1).stem for n in range(header.read().number)})
+
     def test_what_is_not_understood_is_an_error(self):
         text = header.HEADER.read_text()
         for more in ('typedef struct tfk_more { int a; } tfk_more;', 'typedef struct { int a : 1; } tfk_more;',
