@@ -56,7 +56,7 @@ head-nth f b t n i =
     (λ r rest g. (exact-head f) .back (headIn f r) rest (g .0, g .1)) (frame-fill f) b
     n (t .frames) (length (opening (t .lines))) (i .fits .frames-fit) (start-within f b t i) (frames-behind f b t i)
 
-nth-refused : {A : Type 0} (xs : List A) (n k : ℕ) → nth xs n ≡ refused k → k ≡ notFound
+pub nth-refused : {A : Type 0} (xs : List A) (n k : ℕ) → nth xs n ≡ refused k → k ≡ notFound
 nth-refused [] n k e = cc
 nth-refused (x ∷ xs) zero k e = never (sym e)
 nth-refused (x ∷ xs) (suc n) k e = nth-refused xs n k e
