@@ -1,6 +1,3 @@
 pub mod Flat
 pub mod FlatDat
-pub mod Listed
-pub mod ListedDat
 pub mod Told
-pub mod ToldDat
