@@ -8,3 +8,4 @@ pub mod ExactSections
 pub mod ExactTail
 pub mod Exactness
 pub mod Entries
+pub mod Numbers

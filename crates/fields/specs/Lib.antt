@@ -9,3 +9,4 @@ pub mod Exact
 pub mod At
 pub mod Got
 pub mod Output
+pub mod Refuses

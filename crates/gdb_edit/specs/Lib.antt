@@ -9,3 +9,4 @@ pub mod Plan
 pub mod PlanLaws
 pub mod Standing
 pub mod Algebra
+pub mod Numbers

@@ -10,3 +10,4 @@ pub mod ExactBlock
 pub mod ExactFrame
 pub mod ExactLines
 pub mod Exactness
+pub mod Numbers

@@ -2,3 +2,4 @@ pub mod Records
 pub mod Walk
 pub mod Planning
 pub mod Filling
+pub mod Numbers

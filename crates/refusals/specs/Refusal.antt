@@ -1,6 +1,6 @@
 -- The numbers returned on refusal, as document 01's table has them.
 -- Assumes nothing: these are definitions.
-use Prim.Native.Nat.{ℕ}
+use Prim.Native.Nat.{ℕ, _≤_}
 
 -- the longest file, 64 MiB
 abbrev pub limit : ℕ
@@ -73,3 +73,11 @@ badRange = 16
 -- two CPU ranges overlap
 abbrev pub rangesOverlap : ℕ
 rangesOverlap = 17
+
+-- the table's last number
+abbrev pub last : ℕ
+last = rangesOverlap
+
+-- a number of the table
+abbrev pub Listed : ℕ → Type 0
+Listed n = (tooLong ≤ n) × (n ≤ last)

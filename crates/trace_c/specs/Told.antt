@@ -1,140 +1,107 @@
--- `refusal` tells a refusal from an answer: where it is 0, there is an answer (and where there is one it is 0, by Flat.antt).
+-- `refusal` tells a refusal from an answer: where it is 0, there is an answer (and where there is one it is 0, by Flat.antt and FlatDat.antt).
 -- Assumes nothing.
 use mathlib.Core.Path.{_≡_, refl, sym, _∙_, subst}
-use Prim.Native.Nat.{ℕ, _-_}
+use Prim.Native.Nat.{ℕ}
+use native.Mathlib.Omega.{arith}
 use mathlib.Core.List.{List}
-use lib.IntN.{ℤ}
-use lib.ListN.{length}
-use lib.Dec.{leb, ltb}
-use Rattle.refusals.specs.Refusal.{limit}
+use lib.Dec.{lit≤}
+use Rattle.refusals.specs.Refusal.{Listed}
+use Rattle.fields.specs.Lists.{Each}
 use Rattle.fields.specs.Answer.{Answer, accepted, refused}
-use Rattle.gdb_format.specs.Trace.{Block, Trace, opening, encode}
-use Rattle.gdb_format.specs.Decode.{read}
+use Rattle.fields.specs.Output.{answer}
+use Rattle.fields.specs.Refuses.{Refuses, OneOf, refuses-in}
+use Rattle.gdb_format.specs.Numbers.{fileNumbers}
 use Rattle.gdb_format.specs.declared.Settings.{Settings}
-use Rattle.gdb_format.specs.declared.Format.{Format}
-use Rattle.gdb_format.specs.declared.LineKind.{LineKind}
-use Rattle.gdb_read.specs.Steps.{Carried}
-use Rattle.gdb_frames.specs.Places.{linesAt, framesAt, blocksAt, nth}
-use Rattle.gdb_frames.specs.Questions.{asked, frameCount, frameRow, frameData, lineAt}
-use Rattle.gdb_blocks.specs.Search.{earliest, inFrame, nthSeen, blockAt, registersIn, registersAt, memoryIn, memoryAt, valueIn, variableOf, variableAt}
+use Rattle.gdb_frames.specs.Questions.{asked, frameCount, frameData, lineAt}
+use Rattle.gdb_frames.specs.Numbers.{questionNumbers, frame-count-numbers, frame-place-numbers, line-place-numbers}
+use Rattle.gdb_blocks.specs.Search.{blockAt, registersAt, memoryAt, variableAt}
+use Rattle.gdb_blocks.specs.Numbers.{block-record-numbers, registers-place-numbers, memory-place-numbers, variable-numbers}
 use Rattle.gdb_table.specs.Records.{tableCount}
-use Rattle.gdb_edit.specs.Selection.{valid, selectionOf}
-use Rattle.gdb_edit.specs.Cut.{join, cutOf, sameBytes, joinOf}
-use Rattle.fields.specs.Output.{fitting, answer}
+use Rattle.gdb_table.specs.Numbers.{tableNumbers, table-numbers}
+use Rattle.gdb_edit.specs.Cut.{cutOf, joinOf}
+use Rattle.gdb_edit.specs.Numbers.{cutNumbers, cut-numbers, joinNumbers, join-numbers}
 use Rattle.gdb_edit.specs.declared.Selection as edit
-use Rattle.gdb_pair.specs.Pair.{Side, pairPlace, pairVariable}
+use Rattle.gdb_pair.specs.Pair.{pairPlace, pairVariable}
+use Rattle.gdb_pair.specs.Numbers.{pairNumbers, pair-place-numbers, pair-variable-numbers}
+use Rattle.dat_format.specs.Numbers.{datNumbers}
+use Rattle.tracedat.specs.Questions.{summed, cpuRange}
+use Rattle.tracedat.specs.Numbers.{rangeNumbers, summary-numbers, cpu-range-numbers}
 use Rattle.trace_c.specs.Flat.{flatCount, flatPlace, flatLine, flatBlock, flatValue, flatLength, flatPair}
-use Rattle.trace_c.specs.Listed.{InTable, Listed, next-listed, cond-listed, nth-listed, earliest-listed, read-listed, asked-listed}
+use Rattle.trace_c.specs.FlatDat.{flatSummary, flatRange}
 
 -- a call with the answer x, which `flat` makes a struct
 abbrev pub Told : {A B : Type 0} → (Answer A → B) → (B → ℕ) → Answer A → Type 0
 Told {A} flat refusal x = refusal (flat x) ≡ 0 → (a : A) × (x ≡ accepted a)
 
-pub tells : {A B : Type 0} (flat : Answer A → B) (refusal : B → ℕ) → ((k : ℕ) → refusal (flat (refused k)) ≡ k) → (x : Answer A) → Listed x → Told flat refusal x
-tells flat refusal e (accepted a) h z = (a, refl)
-tells flat refusal e (refused k) h z = absurd (subst InTable (sym (e k) ∙ z) h)
+-- where it refuses with numbers of the table only, of which 0 is none
+module _ {A B : Type 0} (flat : Answer A → B) (refusal : B → ℕ) (same : (k : ℕ) → refusal (flat (refused k)) ≡ k) where
+  told : (ns : List ℕ) → Each Listed ns → {x : Answer A} → Refuses (OneOf ns) x → Told flat refusal x
+  told ns h {x = accepted a} r z = (a, refl)
+  told ns h {x = refused k} r z =
+      let listed : Refuses {A = A} Listed (refused k) = refuses-in ns h r in
+      let none : Listed 0 = subst Listed (sym (same k) ∙ z) (listed .only k refl) in
+      absurd (omega (arith, none .0))
 
--- ---- the structs
-
-count-tells : (x : Answer ℕ) → Listed x → Told flatCount (λ r. r .refusal) x
-unfolding flatCount
-count-tells = tells flatCount (λ r. r .refusal) (λ k. refl)
-
-place-tells : (x : Answer (ℕ × ℕ)) → Listed x → Told flatPlace (λ r. r .refusal) x
-unfolding flatPlace
-place-tells = tells flatPlace (λ r. r .refusal) (λ k. refl)
-
-line-tells : (x : Answer (LineKind × (ℕ × ℕ))) → Listed x → Told flatLine (λ r. r .refusal) x
-unfolding flatLine
-line-tells = tells flatLine (λ r. r .refusal) (λ k. refl)
-
-block-tells : (x : Answer (ℕ × Carried)) → Listed x → Told flatBlock (λ r. r .refusal) x
-unfolding flatBlock
-block-tells = tells flatBlock (λ r. r .refusal) (λ k. refl)
-
-value-tells : (x : Answer ℤ) → Listed x → Told flatValue (λ r. r .refusal) x
-unfolding flatValue
-value-tells = tells flatValue (λ r. r .refusal) (λ k. refl)
-
-length-tells : (x : Answer ℕ) → Listed x → Told flatLength (λ r. r .refusal) x
-unfolding flatLength
-length-tells = tells flatLength (λ r. r .refusal) (λ k. refl)
-
-pair-tells : (x : Answer (Side × (ℕ × ℕ))) → Listed x → Told flatPair (λ r. r .refusal) x
-unfolding flatPair
-pair-tells = tells flatPair (λ r. r .refusal) (λ k. refl)
-
--- ---- questions
-
-row-listed : (n : ℕ) (f : Format) (t : Trace) → Listed (frameData n f t)
-row-listed n f t = next-listed (frameRow n f t) _ (next-listed (nth (framesAt f t) n) _ (nth-listed (framesAt f t) n) (λ r. tt)) (λ r. tt)
-
-in-frame-listed : {B : Type 0} (q : List (ℕ × Block) → Answer B) → ((bs : List (ℕ × Block)) → Listed (q bs)) → (n : ℕ) (f : Format) (t : Trace) → Listed (inFrame q n f t)
-in-frame-listed q h n f t = next-listed (nth (framesAt f t) n) _ (nth-listed (framesAt f t) n) (λ r. h (blocksAt f (r .0) (r .1)))
+-- ---- questions about a GDB trace
 
 module _ (s : Settings) (b : List ℕ) where
   pub frame-count-told : Told flatCount (λ r. r .refusal) (asked s b frameCount)
-  frame-count-told = count-tells _ (asked-listed s b frameCount (λ f t. tt))
+  unfolding flatCount
+  frame-count-told = told flatCount (λ r. r .refusal) (λ k. refl) fileNumbers (search lit≤) (frame-count-numbers s b)
 
   pub frame-table-told : (room : ℕ) → Told flatCount (λ r. r .refusal) (asked s b (tableCount room))
-  frame-table-told room = count-tells _ (asked-listed s b (tableCount room) (λ f t. cond-listed (ltb room (length (t .frames))) _ _ tt tt))
+  unfolding flatCount
+  frame-table-told room = told flatCount (λ r. r .refusal) (λ k. refl) tableNumbers (search lit≤) (table-numbers s b room)
 
   pub line-place-told : (j : ℕ) → Told flatLine (λ r. r .refusal) (asked s b (lineAt j))
-  line-place-told j = line-tells _ (asked-listed s b (lineAt j) (λ f t. next-listed (nth (linesAt t) j) _ (nth-listed (linesAt t) j) (λ r. tt)))
+  unfolding flatLine
+  line-place-told j = told flatLine (λ r. r .refusal) (λ k. refl) questionNumbers (search lit≤) (line-place-numbers s b j)
 
   pub frame-place-told : (n : ℕ) → Told flatPlace (λ r. r .refusal) (asked s b (frameData n))
-  frame-place-told n = place-tells _ (asked-listed s b (frameData n) (row-listed n))
+  unfolding flatPlace
+  frame-place-told n = told flatPlace (λ r. r .refusal) (λ k. refl) questionNumbers (search lit≤) (frame-place-numbers s b n)
 
   pub block-record-told : (n k : ℕ) → Told flatBlock (λ r. r .refusal) (asked s b (blockAt n k))
-  block-record-told n k = block-tells _ (asked-listed s b (blockAt n k) (in-frame-listed (nthSeen k) (λ bs. next-listed (nth bs k) _ (nth-listed bs k) (λ r. tt)) n))
+  unfolding flatBlock
+  block-record-told n k = told flatBlock (λ r. r .refusal) (λ k. refl) questionNumbers (search lit≤) (block-record-numbers s b n k)
 
   pub registers-place-told : (n : ℕ) → Told flatPlace (λ r. r .refusal) (asked s b (registersAt n))
-  registers-place-told n = place-tells _ (asked-listed s b (registersAt n) (in-frame-listed (earliest registersIn) (earliest-listed registersIn) n))
+  unfolding flatPlace
+  registers-place-told n = told flatPlace (λ r. r .refusal) (λ k. refl) questionNumbers (search lit≤) (registers-place-numbers s b n)
 
   pub memory-place-told : (n a : ℕ) → Told flatPlace (λ r. r .refusal) (asked s b (memoryAt a n))
-  memory-place-told n a = place-tells _ (asked-listed s b (memoryAt a n) (in-frame-listed (earliest (memoryIn a)) (earliest-listed (memoryIn a)) n))
-
-  variable-listed : (n v : ℕ) → Listed (asked s b (variableAt v n))
-  variable-listed n v = asked-listed s b (variableAt v n) (in-frame-listed (variableOf v) (earliest-listed (valueIn v)) n)
+  unfolding flatPlace
+  memory-place-told n a = told flatPlace (λ r. r .refusal) (λ k. refl) questionNumbers (search lit≤) (memory-place-numbers s b n a)
 
   pub variable-told : (n v : ℕ) → Told flatValue (λ r. r .refusal) (asked s b (variableAt v n))
-  variable-told n v = value-tells _ (variable-listed n v)
+  unfolding flatValue
+  variable-told n v = told flatValue (λ r. r .refusal) (λ k. refl) questionNumbers (search lit≤) (variable-numbers s b n v)
 
 -- ---- cut, join and pairs
 
-fitting-listed : (out : List ℕ) (x : Answer (List ℕ)) → Listed x → Listed (fitting out x)
-fitting-listed out (accepted c) h = cond-listed (leb (length c) (length out)) _ _ tt tt
-fitting-listed out (refused k) h = h
-
-written-told : (x : Answer (List ℕ)) (out : List ℕ) → Listed x → Told flatLength (λ r. r .refusal) (answer x out)
-written-told x out h = length-tells _ (next-listed (fitting out x) _ (fitting-listed out x h) (λ c. tt))
-
 pub cut-told : (s : Settings) (sel : edit.Selection) (b out : List ℕ) → Told flatLength (λ r. r .refusal) (answer (cutOf s sel b) out)
-unfolding cutOf
-cut-told s sel b out =
-    written-told (cutOf s sel b) out
-    (next-listed (selectionOf sel) _ (cond-listed (valid sel) _ _ tt tt) (λ c. next-listed (read s b) _ (read-listed s b) (λ r. tt)))
+unfolding flatLength
+cut-told s sel b out = told flatLength (λ r. r .refusal) (λ k. refl) cutNumbers (search lit≤) (cut-numbers s sel b out)
 
 module _ (s : Settings) (a b : List ℕ) where
-  join-listed : Listed (joinOf s a b)
-  unfolding joinOf
-  join-listed =
-      next-listed (read s a) _ (read-listed s a) (λ p. next-listed (read s b) _ (read-listed s b) (λ q.
-      cond-listed (sameBytes (opening (p .1 .lines)) (opening (q .1 .lines))) _ _
-      (cond-listed (leb (length (encode (p .0) (join (p .1) (q .1)))) limit) _ _ tt tt) tt))
-
   pub join-told : (out : List ℕ) → Told flatLength (λ r. r .refusal) (answer (joinOf s a b) out)
-  join-told out = written-told (joinOf s a b) out join-listed
+  unfolding flatLength
+  join-told out = told flatLength (λ r. r .refusal) (λ k. refl) joinNumbers (search lit≤) (join-numbers s a b out)
 
   pub pair-place-told : (n : ℕ) → Told flatPair (λ r. r .refusal) (pairPlace s a b n)
-  unfolding pairPlace
-  pair-place-told n =
-      pair-tells (pairPlace s a b n)
-      (next-listed (joinOf s a b) _ join-listed (λ c. next-listed (read s a) _ (read-listed s a) (λ p. next-listed (read s b) _ (read-listed s b) (λ q.
-      cond-listed (ltb n (length (p .1 .frames))) _ _
-      (next-listed (frameData n (p .0) (p .1)) _ (row-listed n (p .0) (p .1)) (λ r. tt))
-      (next-listed (frameData (n - length (p .1 .frames)) (p .0) (q .1)) _ (row-listed (n - length (p .1 .frames)) (p .0) (q .1)) (λ r. tt))))))
+  unfolding flatPair
+  pair-place-told n = told flatPair (λ r. r .refusal) (λ k. refl) pairNumbers (search lit≤) (pair-place-numbers s a b n)
 
   pub pair-variable-told : (n v : ℕ) → Told flatValue (λ r. r .refusal) (pairVariable s a b n v)
-  unfolding pairVariable
-  pair-variable-told n v = value-tells (pairVariable s a b n v) (next-listed (joinOf s a b) _ join-listed (λ c. variable-listed s c n v))
+  unfolding flatValue
+  pair-variable-told n v = told flatValue (λ r. r .refusal) (λ k. refl) pairNumbers (search lit≤) (pair-variable-numbers s a b n v)
+
+-- ---- trace.dat
+
+pub dat-read-told : (b : List ℕ) → Told flatSummary (λ r. r .refusal) (summed b)
+unfolding flatSummary
+dat-read-told b = told flatSummary (λ r. r .refusal) (λ k. refl) datNumbers (search lit≤) (summary-numbers b)
+
+pub dat-cpu-range-told : (i : ℕ) (b : List ℕ) → Told flatRange (λ r. r .refusal) (cpuRange i b)
+unfolding flatRange
+dat-cpu-range-told i b = told flatRange (λ r. r .refusal) (λ k. refl) rangeNumbers (search lit≤) (cpu-range-numbers i b)
