@@ -14,11 +14,11 @@ use Rattle.fields.specs.Answer.{Answer, accepted, refused, accepted-one, next, 
 use Rattle.fields.specs.Reader.{seenAt}
 use Rattle.fields.specs.Got.{Got, not-read, got}
 use Rattle.dat_format.specs.Header.{Range, Ending, latency, flyrecord, Header, encode}
-use Rattle.dat_format.specs.Layout.{HeaderFits, ranges, inFile, all, allApart}
+use Rattle.dat_format.specs.Layout.{HeaderFits, ranges}
+use Rattle.dat_format.specs.Tests.{inFile, all, allApart}
 use Rattle.dat_format.specs.Decode.{header, checked, decode}
 use Rattle.dat_format.specs.Entries.{entryAt, entries, nth, nth-entry, no-entry}
 use Rattle.dat_format.specs.Exactness.{exact-header, exactness}
-use Rattle.dat_format.specs.Pages.{page-is}
 use Rattle.dat_read.specs.Summary.{kindOf, summary, summarySeen}
 use Rattle.dat_read.specs.Parts.{entries-are}
 use Rattle.dat_read.specs.declared.summary.EndingKind.the-variants.{Latency, Flyrecord}
@@ -56,7 +56,7 @@ module _ (s : List ℕ) (sm : Summary) (r : Summarised s sm) where
   page-same = ap (λ t. t .flags .page) (r .sums)
 
   pub page-some : 0 < sm .flags .page
-  page-some = omega (arith, page-same, page-is (r .whole .opening .page) (r .fits .0 .1))
+  page-some = omega (arith, page-same, r .fits .0 .1 .0)
 
   module _ (k : sm .ending ≡ Flyrecord) where
     is-fly : (rs : List Range) × (r .whole .tail .ending ≡ flyrecord rs)

@@ -1,2 +1,3 @@
 pub mod Ranges
 pub mod Questions
+pub mod Accepted

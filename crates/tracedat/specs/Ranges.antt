@@ -6,7 +6,7 @@ use Prim.Native.Nat.{ℕ, _+_, _<_}
 use mathlib.Core.List.{List, [], _∷_}
 use lib.Dec.{leb, eqb}
 use Rattle.dat_format.specs.Header.{Range}
-use Rattle.dat_format.specs.Layout.{inFile, apart}
+use Rattle.dat_format.specs.Tests.{inFile, apart}
 use Rattle.tracedat.specs.declared.ranges.Later.{Later}
 use Rattle.tracedat.specs.declared.ranges.Later.the-variants.{At, Not}
 use Rattle.tracedat.specs.declared.ranges.Test.{Test}

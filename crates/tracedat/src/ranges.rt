@@ -4,7 +4,7 @@ ghost use mathlib.Core.Bool.{true};
 ghost use Prim.Native.Nat.{_+_, _*_, _<_, _≤_};
 ghost use lib.Dec.{leb};
 ghost use lib.ListN.{length};
-ghost use Rattle.dat_format.specs.Layout.{aligned, inFile, apart, all, allApart};
+ghost use Rattle.dat_format.specs.Tests.{aligned, inFile, apart, all, allApart};
 ghost use Rattle.dat_format.specs.Entries.{entries};
 ghost use Rattle.tracedat.specs.Ranges.{rangeOf, testOf, testFits, Leads};
 use fields::Order;
