@@ -16,8 +16,10 @@ use Rattle.fields.specs.declared.Order.{Order}
 use Rattle.dat_format.specs.Header.{Range}
 use Rattle.dat_format.specs.Tests.{aligned, inFile, apart, all, allApart}
 use Rattle.dat_format.specs.Entries.{entries}
-use Rattle.tracedat.specs.Ranges.{rangeOf, inOrder, Leads}
+use Rattle.tracedat.specs.Ranges.{rangeOf, inOrder, Leads, verdict}
 use Rattle.tracedat.specs.declared.ranges.Later.the-variants.{At}
+use Rattle.tracedat.specs.declared.ranges.Verdict.{Verdict}
+use Rattle.tracedat.specs.declared.ranges.Verdict.the-variants.{Sound, Misplaced, Overlap}
 
 leb-iff : (a b c d : ℕ) → (a ≤ b → c ≤ d) → (c ≤ d → a ≤ b) → leb a b ≡ leb c d
 leb-iff a b c d f g =
@@ -150,3 +152,20 @@ module _ (o : Order) (s : List ℕ) (at : ℕ) where
   order-turn a n ea en last end (suc k) l h e =
       let j : suc k - 1 ≡ k = omega arith in
       rw (← ea, ← en) (h (entries o s k (at + 16)) (rw j at e))
+
+-- ---- the verdict
+
+-- what has to be found for each
+abbrev Found : (Range → Bool) → List Range → Verdict → Type 0
+Found t rs Misplaced = all t rs ≡ false
+Found t rs Overlap = (all t rs ≡ true) × (allApart rs ≡ false)
+Found t rs Sound = (all t rs ≡ true) × (allApart rs ≡ true)
+
+pub verdict-of : (t : Range → Bool) (rs : List Range) (v : Verdict) → Found t rs v → v ≡ verdict t rs
+verdict-of t rs Misplaced f = rw f
+verdict-of t rs Overlap f = rw (f .0, f .1)
+verdict-of t rs Sound f = rw (f .0, f .1)
+
+-- a test that was made says what is tested
+pub tested : {r a t : Bool} → r ≡ a → r ≡ t → a ≡ t
+tested e f = sym e ∙ f
