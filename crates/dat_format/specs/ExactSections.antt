@@ -1,11 +1,12 @@
 -- The readers of the opening, the sections and the texts are exact.
 -- Assumes nothing.
 use mathlib.Core.Path.{_≡_, refl, ap}
+use mathlib.Core.Logic.{inl, inr}
 use Prim.Native.Nat.{ℕ, zero, suc, _^_, _<_}
 use native.Mathlib.Omega.{arith}
 use mathlib.Core.List.{[], _++_, append-assoc, append-nil}
 use lib.Dec.{leb}
-use borrow.Author.Tests.{leb-true}
+use borrow.Author.Tests.{leb-true, le-leb}
 use Rattle.refusals.specs.Refusal.{fieldPastFile, badConstant, badRange}
 use Rattle.fields.specs.Lists.{clash}
 use Rattle.fields.specs.Number.{field}
@@ -13,10 +14,11 @@ use Rattle.fields.specs.Exact.{Exact, exact-give, exact-refuse, exact-then, exa
 use Rattle.fields.specs.declared.Order.{Order}
 use Rattle.fields.specs.declared.Order.the-variants.{Little, Big}
 use Rattle.dat_format.specs.Header.{Opening, magic, tracing, version, pageWord, eventWord, codeOf, putFlags, putOpening, putSystem, putSections, putTexts}
-use Rattle.dat_format.specs.Layout.{isLong, isPage, mostCpus, OpeningFits, SystemFits, SectionsFit, TextsFit}
+use Rattle.dat_format.specs.Layout.{LongFits, mostCpus, OpeningFits, SystemFits, SectionsFit, TextsFit}
+use Rattle.dat_format.specs.Tests.{isLong, isPage}
 use Rattle.dat_format.specs.Decode.{orderIn, sizes, flags, opening, system, sections, texts}
 use Rattle.dat_format.specs.ExactPieces.{exact-such, exact-after, exact-counted, exact-sized, exact-name}
-use Rattle.dat_format.specs.Pages.{long-is, page-is}
+use Rattle.dat_format.specs.Pages.{long-fits, page-fits}
 
 -- ---- the opening
 
@@ -31,6 +33,10 @@ code-small : (o : Order) → codeOf o < 256 ^ 1
 code-small Little = omega arith
 code-small Big = omega arith
 
+long-small : (n : ℕ) → LongFits n → n < 256 ^ 1
+long-small n (inl e) = omega arith
+long-small n (inr e) = omega arith
+
 exact-sizes : (o : Order) → Exact (sizes o) (λ h. OpeningFits h × (h .order ≡ o)) (λ h. field Little 1 (h .long) ++ field o 4 (h .page))
 unfolding sizes
 exact-sizes o =
@@ -39,8 +45,14 @@ exact-sizes o =
     (λ l. exact-then (exact-such isPage badConstant (exact-num o 4 fieldPastFile)) (λ p. exact-give (record { order = o; long = l; page = p }))
     (λ h. h .page) (λ p h f e. ap (λ h. h .page) e))
     (λ h. h .long) (λ l h f e. ap (λ h. h .long) (e .1)))
-    (λ h f. (((omega (arith, long-is (h .long) (f .0 .0)), f .0 .0), ((omega (arith, page-is (h .page) (f .0 .1)), f .0 .1), made h (f .1))), simp append-nil))
-    (λ h f. (((f .0 .1, f .1 .0 .1), ap (λ h. h .order) (f .1 .1)), simp append-nil))
+    (λ h f. (
+      (
+        (long-small (h .long) (f .0 .0), (long-fits (h .long)) .1 (f .0 .0)),
+        ((omega (arith, f .0 .1 .1), (page-fits (h .page)) .1 (f .0 .1)), made h (f .1)),
+      ),
+      simp append-nil,
+    ))
+    (λ h f. ((((long-fits (h .long)) .0 (f .0 .1), (page-fits (h .page)) .0 (f .1 .0 .1)), ap (λ h. h .order) (f .1 .1)), simp append-nil))
   where
     made : (h : Opening) → h .order ≡ o → _≡_ {A = Opening} h (record { order = o; long = h .long; page = h .page })
     made h e = ap (λ o. record { order = o; long = h .long; page = h .page }) e
@@ -88,10 +100,11 @@ unfolding texts putTexts
 exact-texts o =
     exact-as
     (exact-then (exact-sized o 4) (λ k. exact-then (exact-sized o 4) (λ f. exact-then (exact-sized o 8)
-    (λ p. exact-then (exact-such (λ n. leb n mostCpus) badRange (exact-num o 4 fieldPastFile)) (λ n. exact-give (record { kallsyms = k; printk = f; processes = p; cpus = n }))
+    (λ p. exact-then (exact-such (λ n. leb n mostCpus) badRange (exact-num o 4 fieldPastFile))
+    (λ n. exact-give (record { kallsyms = k; printk = f; processes = p; cpus = n }))
     (λ h. h .cpus) (λ n h f e. ap (λ h. h .cpus) e))
     (λ h. h .processes) (λ p h f e. ap (λ h. h .processes) (e .1)))
     (λ h. h .printk) (λ p h f e. ap (λ h. h .printk) (e .1 .1)))
     (λ h. h .kallsyms) (λ p h f e. ap (λ h. h .kallsyms) (e .1 .1 .1)))
-    (λ h f. ((f .0, (f .1, (f .2, ((omega (arith, leb-true (h .cpus) mostCpus (f .3)), f .3), refl)))), simp (append-nil, append-assoc)))
-    (λ h f. ((f .0, f .1 .0, f .1 .1 .0, f .1 .1 .1 .0 .1), simp (append-nil, append-assoc)))
+    (λ h f. ((f .0, (f .1, (f .2, ((omega (arith, f .3), le-leb (h .cpus) mostCpus (f .3)), refl)))), simp (append-nil, append-assoc)))
+    (λ h f. ((f .0, f .1 .0, f .1 .1 .0, leb-true (h .cpus) mostCpus (f .1 .1 .1 .0 .1)), simp (append-nil, append-assoc)))

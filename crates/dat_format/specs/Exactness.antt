@@ -13,7 +13,9 @@ use Rattle.fields.specs.Number.{Bytes}
 use Rattle.fields.specs.Answer.{accepted, refused, next, next-inv, cond-inv}
 use Rattle.fields.specs.Exact.{Exact, exact-give, exact-then, exact-as}
 use Rattle.dat_format.specs.Header.{Header, encode}
-use Rattle.dat_format.specs.Layout.{HeaderFits, ranges, inFile, all, allApart, Layout}
+use Rattle.dat_format.specs.Layout.{HeaderFits, ranges, Layout}
+use Rattle.dat_format.specs.Tests.{inFile, all, allApart}
+use Rattle.dat_format.specs.RangeLaws.{all-in-file, none-overlap}
 use Rattle.dat_format.specs.Decode.{header, checked, decode}
 use Rattle.dat_format.specs.ExactSections.{exact-opening, exact-sections, exact-texts}
 use Rattle.dat_format.specs.ExactTail.{exact-tail}
@@ -46,14 +48,23 @@ checked-inv total h g e =
 
 opens : (b rest : List ℕ) (h g : Header) → length b ≤ limit → HeaderFits h × (encode h ++ rest ≡ b) → checked (length b) h ≡ accepted g → Opens b g
 opens b rest h g k f e =
+    let rs = ranges (h .tail .ending) in
     let c = checked-inv (length b) h g e in
-    subst (Opens b) (c .0) (record { length-fits = k; fits = f .0; in-file = c .1; no-overlap = c .2 }, (rest, f .1))
+    let l : Layout (length b) h = record {
+      length-fits = k;
+      fits = f .0;
+      in-file = (all-in-file (h .opening .page) (length (encode h)) (length b) rs) .0 (c .1);
+      no-overlap = (none-overlap rs) .0 (c .2);
+    } in
+    subst (Opens b) (c .0) (l, (rest, f .1))
 
 decode-back : (b rest : List ℕ) (h : Header) → Layout (length b) h → encode h ++ rest ≡ b → decode b ≡ accepted h
 unfolding decode checked
 decode-back b rest h l e =
     let r : header b ≡ accepted (h, rest) = subst (λ b. header b ≡ accepted (h, rest)) e (exact-header .back h rest (l .fits)) in
-    rw (le-leb (length b) limit (l .length-fits), r, l .in-file, l .no-overlap)
+    let rs = ranges (h .tail .ending) in
+    let i = (all-in-file (h .opening .page) (length (encode h)) (length b) rs) .1 (l .in-file) in
+    rw (le-leb (length b) limit (l .length-fits), r, i, (none-overlap rs) .1 (l .no-overlap))
 
 pub exactness : (b : List ℕ) (h : Header) → Bytes b → (decode b ≡ accepted h) ↔ Opens b h
 unfolding decode

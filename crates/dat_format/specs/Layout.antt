@@ -1,30 +1,30 @@
 -- Which headers the layout admits, and what it asks of the CPU ranges.
 -- Assumes nothing: these are definitions.
 use mathlib.Core.Path.{_≡_}
-use mathlib.Core.Bool.{Bool, true, _&&_, _||_}
 use mathlib.Core.Option.{Option, none, some}
-use Prim.Native.Nat.{ℕ, _+_, _%_, _^_, _<_, _≤_}
+use mathlib.Core.Logic.{_⊎_}
+use Prim.Native.Nat.{ℕ, _+_, _*_, _^_, _<_, _≤_}
 use mathlib.Core.List.{List, [], _∷_}
 use lib.ListN.{length}
-use lib.Dec.{leb, eqb}
 use Rattle.refusals.specs.Refusal.{limit}
 use Rattle.fields.specs.Lists.{Each}
 use Rattle.dat_format.specs.Header.{Opening, System, Sections, Texts, Opt, Range, Ending, latency, flyrecord, Tail, Header, encode}
 
 -- ---- each field's conditions
 
-abbrev pub isLong : ℕ → Bool
-isLong n = eqb n 4 || eqb n 8
+-- 4 or 8
+abbrev pub LongFits : ℕ → Type 0
+LongFits n = (n ≡ 4) ⊎ (n ≡ 8)
 
--- a power of two from 1,024 to 65,536 (Pages.antt)
-abbrev pub isPage : ℕ → Bool
-isPage n = eqb n 1024 || (eqb n 2048 || (eqb n 4096 || (eqb n 8192 || (eqb n 16384 || (eqb n 32768 || eqb n 65536)))))
+-- a power of two from 1,024 to 65,536
+abbrev pub PageFits : ℕ → Type 0
+PageFits n = (1024 ≤ n) × (n ≤ 65536) × ((k : ℕ) × (n ≡ 2 ^ k))
 
 abbrev pub mostCpus : ℕ
 mostCpus = 1024
 
 abbrev pub OpeningFits : Opening → Type 0
-OpeningFits h = (isLong (h .long) ≡ true) × (isPage (h .page) ≡ true)
+OpeningFits h = LongFits (h .long) × PageFits (h .page)
 
 -- data whose size stands in w bytes
 abbrev pub DataFits : ℕ → List ℕ → Type 0
@@ -44,7 +44,7 @@ abbrev pub SectionsFit : Sections → Type 0
 SectionsFit h = DataFits 8 (h .headerPage) × DataFits 8 (h .headerEvent) × CountFits (DataFits 8) (h .formats) × CountFits SystemFits (h .systems)
 
 abbrev pub TextsFit : Texts → Type 0
-TextsFit h = DataFits 4 (h .kallsyms) × DataFits 4 (h .printk) × DataFits 8 (h .processes) × (leb (h .cpus) mostCpus ≡ true)
+TextsFit h = DataFits 4 (h .kallsyms) × DataFits 4 (h .printk) × DataFits 8 (h .processes) × (h .cpus ≤ mostCpus)
 
 -- type 0 ends the list, so no option has it
 abbrev pub OptFits : Opt → Type 0
@@ -74,30 +74,31 @@ abbrev pub ranges : Ending → List Range
 ranges latency = []
 ranges (flyrecord rs) = rs
 
--- the offset is a multiple of the page size
-abbrev pub aligned : ℕ → ℕ → Bool
-aligned page offset = eqb (offset % page) 0
+-- a multiple of the page size
+abbrev pub Multiple : ℕ → ℕ → Type 0
+Multiple page n = (k : ℕ) × (n ≡ k * page)
 
--- not before the header's end, and not past the file's end, offset and size added as whole numbers; a range of size 0 is not looked at
-abbrev pub inFile : ℕ → ℕ → ℕ → Range → Bool
-inFile page end total r =
-    eqb (r .size) 0 || (aligned page (r .offset) && (leb end (r .offset) && leb (r .offset + r .size) total))
+-- of a range of size 0 the offset is not looked at; of the others it is a multiple of the page size and not before the header's end,
+-- and offset plus size, as whole numbers, is not past the file's end
+abbrev pub LiesInFile : ℕ → ℕ → ℕ → Range → Type 0
+LiesInFile page end total r = 0 < r .size → Multiple page (r .offset) × (end ≤ r .offset) × (r .offset + r .size ≤ total)
 
-abbrev pub apart : Range → Range → Bool
-apart r q = eqb (r .size) 0 || (eqb (q .size) 0 || (leb (r .offset + r .size) (q .offset) || leb (q .offset + q .size) (r .offset)))
+-- the byte at x lies in the range; a range of size 0 holds none
+abbrev pub Inside : ℕ → Range → Type 0
+Inside x r = (r .offset ≤ x) × (x < r .offset + r .size)
 
-abbrev pub all : {A : Type 0} → (A → Bool) → List A → Bool
-all p [] = true
-all p (x ∷ xs) = p x && all p xs
+-- no byte lies in both
+abbrev pub NoneInBoth : Range → Range → Type 0
+NoneInBoth r q = (x : ℕ) → Inside x r → Inside x q → ⊥
 
--- no two overlap
-abbrev pub allApart : List Range → Bool
-allApart [] = true
-allApart (r ∷ rs) = all (apart r) rs && allApart rs
+-- R holds of every two elements: of each and each later one
+abbrev pub EachTwo : {A : Type 0} → (A → A → Type 0) → List A → Type 0
+EachTwo R [] = Unit {0}
+EachTwo R (x ∷ xs) = Each (R x) xs × EachTwo R xs
 
 -- a header that may open a file of `total` bytes
 pub record Layout (total : ℕ) (h : Header) : Type 0 where
   pub length-fits : total ≤ limit
   pub fits : HeaderFits h
-  pub in-file : all (inFile (h .opening .page) (length (encode h)) total) (ranges (h .tail .ending)) ≡ true
-  pub no-overlap : allApart (ranges (h .tail .ending)) ≡ true
+  pub in-file : Each (LiesInFile (h .opening .page) (length (encode h)) total) (ranges (h .tail .ending))
+  pub no-overlap : EachTwo NoneInBoth (ranges (h .tail .ending))

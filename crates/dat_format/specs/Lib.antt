@@ -1,7 +1,9 @@
 pub mod Pieces
 pub mod Header
 pub mod Layout
+pub mod Tests
 pub mod Pages
+pub mod RangeLaws
 pub mod Decode
 pub mod ExactPieces
 pub mod ExactSections

@@ -1,6 +1,6 @@
 // Which long sizes and page sizes a trace.dat header may state.
 ghost use mathlib.Core.Path.{_≡_};
-ghost use Rattle.dat_format.specs.Layout.{isLong, isPage};
+ghost use Rattle.dat_format.specs.Tests.{isLong, isPage};
 
 pub fn is_long(n: u8) -> bool
     ensures { λ r. ⌜ r ≡ isLong n ⌝ }

@@ -17,7 +17,7 @@ use Rattle.fields.specs.declared.Order.{Order}
 use Rattle.fields.specs.declared.Order.the-variants.{Little, Big}
 use Rattle.dat_format.specs.Pieces.{fixed}
 use Rattle.dat_format.specs.Header.{magic, tracing, version}
-use Rattle.dat_format.specs.Layout.{isLong, isPage}
+use Rattle.dat_format.specs.Tests.{isLong, isPage}
 use Rattle.dat_format.specs.Decode.{orderIn, sizes, flags, opening}
 use Rattle.dat_read.specs.Summary.{flagsSeen}
 use Rattle.dat_read.specs.declared.summary.Flags.{Flags}

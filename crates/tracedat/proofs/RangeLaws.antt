@@ -1,7 +1,7 @@
 -- The tests of CPU ranges, case by case, and a turn of the walks over the entries.
 -- Assumes nothing.
 use mathlib.Core.Path.{_≡_, refl, sym, ap, _∙_}
-use mathlib.Core.Bool.{Bool, true, false, cond, _&&_, _||_}
+use mathlib.Core.Bool.{Bool, true, false, cond, _&&_, or-true, or-false}
 use Prim.Native.Nat.{ℕ, zero, suc, _+_, _-_, _%_, _^_, _<_, _≤_}
 use native.Mathlib.Nat.{le-refl, lt-of-not-le}
 use native.Mathlib.Decide.{decLe}
@@ -14,23 +14,17 @@ use Rattle.fields.specs.Number.{wordAt}
 use Rattle.fields.specs.Word.{and-inv}
 use Rattle.fields.specs.declared.Order.{Order}
 use Rattle.dat_format.specs.Header.{Range}
-use Rattle.dat_format.specs.Layout.{aligned, inFile, apart, all, allApart}
+use Rattle.dat_format.specs.Tests.{aligned, inFile, apart, all, allApart}
 use Rattle.dat_format.specs.Entries.{entries}
-use Rattle.tracedat.specs.Ranges.{rangeOf, inOrder, Leads}
+use Rattle.tracedat.specs.Ranges.{rangeOf, inOrder, Leads, verdict}
 use Rattle.tracedat.specs.declared.ranges.Later.the-variants.{At}
+use Rattle.tracedat.specs.declared.ranges.Verdict.{Verdict}
+use Rattle.tracedat.specs.declared.ranges.Verdict.the-variants.{Sound, Misplaced, Overlap}
 
 leb-iff : (a b c d : ℕ) → (a ≤ b → c ≤ d) → (c ≤ d → a ≤ b) → leb a b ≡ leb c d
 leb-iff a b c d f g =
     by-cases (decLe a b) (λ h. le-leb a b h ∙ sym (le-leb c d (f h)))
     (λ h. lt-leb a b (lt-of-not-le h) ∙ sym (by-cases (decLe c d) (λ k. absurd (h (g k))) (λ k. lt-leb c d (lt-of-not-le k))))
-
-or-no : (b : Bool) → b || false ≡ b
-or-no true = refl
-or-no false = refl
-
-or-yes : (b : Bool) → b || true ≡ true
-or-yes true = refl
-or-yes false = refl
 
 -- the sum, taken modulo 2 ^ 64: it is below the offset exactly where it wraps
 pub wrap-free : (a n r : ℕ) → a < 2 ^ 64 → n < 2 ^ 64 → r ≡ (a + n) % 2 ^ 64 → a ≤ r → r ≡ a + n
@@ -69,7 +63,7 @@ module _ (a n b m : ℕ) where
     module _ (y : m ≡ 0 → ⊥) where
       pub first-low : a ≤ b → leb n (b - a) ≡ apart (rangeOf a n) (rangeOf b m)
       first-low h =
-          rw (ne-eqb n 0 z, ne-eqb m 0 y, lt-leb (b + m) a (omega arith), or-no (leb (a + n) b)) (leb-iff n (b - a) (a + n) b (λ p. omega arith) (λ p. omega arith))
+          rw (ne-eqb n 0 z, ne-eqb m 0 y, lt-leb (b + m) a (omega arith), or-false (leb (a + n) b)) (leb-iff n (b - a) (a + n) b (λ p. omega arith) (λ p. omega arith))
 
       pub second-low : b < a → leb m (a - b) ≡ apart (rangeOf a n) (rangeOf b m)
       second-low h = rw (ne-eqb n 0 z, ne-eqb m 0 y, lt-leb (a + n) b (omega arith)) (leb-iff m (a - b) (b + m) a (λ p. omega arith) (λ p. omega arith))
@@ -120,11 +114,11 @@ before r last h (q ∷ rs) e = by (eqb (q .size) 0) refl e (λ l k f. before r l
   where
     by : (t : Bool) → eqb (q .size) 0 ≡ t → cond t (inOrder last rs) (leb last (q .offset) && inOrder (q .offset + q .size) rs) ≡ true
         → ((l : ℕ) → r .offset + r .size ≤ l → inOrder l rs ≡ true → all (apart r) rs ≡ true) → all (apart r) (q ∷ rs) ≡ true
-    by true z e more = rw (z, or-yes (eqb (r .size) 0), more last h e)
+    by true z e more = rw (z, or-true (eqb (r .size) 0), more last h e)
     by false z e more =
         let p = and-inv (leb last (q .offset)) (inOrder (q .offset + q .size) rs) e in
         let l : last ≤ q .offset = leb-true last (q .offset) (p .0) in
-        let a : apart r q ≡ true = rw (z, le-leb (r .offset + r .size) (q .offset) (omega arith)) (or-yes (eqb (r .size) 0)) in
+        let a : apart r q ≡ true = rw (z, le-leb (r .offset + r .size) (q .offset) (omega arith)) (or-true (eqb (r .size) 0)) in
         rw (a, more (q .offset + q .size) (omega arith) (p .1))
 
 pub order-apart : (last : ℕ) (rs : List Range) → inOrder last rs ≡ true → allApart rs ≡ true
@@ -158,3 +152,20 @@ module _ (o : Order) (s : List ℕ) (at : ℕ) where
   order-turn a n ea en last end (suc k) l h e =
       let j : suc k - 1 ≡ k = omega arith in
       rw (← ea, ← en) (h (entries o s k (at + 16)) (rw j at e))
+
+-- ---- the verdict
+
+-- what has to be found for each
+abbrev Found : (Range → Bool) → List Range → Verdict → Type 0
+Found t rs Misplaced = all t rs ≡ false
+Found t rs Overlap = (all t rs ≡ true) × (allApart rs ≡ false)
+Found t rs Sound = (all t rs ≡ true) × (allApart rs ≡ true)
+
+pub verdict-of : (t : Range → Bool) (rs : List Range) (v : Verdict) → Found t rs v → v ≡ verdict t rs
+verdict-of t rs Misplaced f = rw f
+verdict-of t rs Overlap f = rw (f .0, f .1)
+verdict-of t rs Sound f = rw (f .0, f .1)
+
+-- a test that was made says what is tested
+pub tested : {r a t : Bool} → r ≡ a → r ≡ t → a ≡ t
+tested e f = sym e ∙ f

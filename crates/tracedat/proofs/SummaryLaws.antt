@@ -1,7 +1,7 @@
 -- What `summary` and `cpu_range` answer in each case that the code tells apart.
 -- Assumes nothing.
 use mathlib.Core.Path.{_≡_, refl, sym, ap, ap₂, _∙_, subst}
-use mathlib.Core.Bool.{Bool, true, false}
+use mathlib.Core.Bool.{Bool, true, false, cond}
 use Prim.Native.Nat.{ℕ, _+_, _*_, _<_, _≤_}
 use native.Mathlib.Omega.{arith}
 use mathlib.Core.List.{List, _++_}
@@ -14,17 +14,19 @@ use Rattle.fields.specs.Answer.{Answer, accepted, refused, accepted-one, next, 
 use Rattle.fields.specs.Reader.{seenAt}
 use Rattle.fields.specs.Got.{Got, not-read, got}
 use Rattle.dat_format.specs.Header.{Range, Ending, latency, flyrecord, Header, encode}
-use Rattle.dat_format.specs.Layout.{HeaderFits, ranges, inFile, all, allApart}
+use Rattle.dat_format.specs.Layout.{HeaderFits, ranges}
+use Rattle.dat_format.specs.Tests.{inFile, all, allApart}
 use Rattle.dat_format.specs.Decode.{header, checked, decode}
 use Rattle.dat_format.specs.Entries.{entryAt, entries, nth, nth-entry, no-entry}
 use Rattle.dat_format.specs.Exactness.{exact-header, exactness}
-use Rattle.dat_format.specs.Pages.{page-is}
 use Rattle.dat_read.specs.Summary.{kindOf, summary, summarySeen}
 use Rattle.dat_read.specs.Parts.{entries-are}
 use Rattle.dat_read.specs.declared.summary.EndingKind.the-variants.{Latency, Flyrecord}
 use Rattle.dat_read.specs.declared.summary.Summary.{Summary}
-use Rattle.tracedat.specs.Ranges.{rangeOf}
+use Rattle.tracedat.specs.Ranges.{rangeOf, verdict}
 use Rattle.tracedat.specs.Questions.{summed, cpuRange}
+use Rattle.tracedat.specs.declared.ranges.Verdict.{Verdict}
+use Rattle.tracedat.specs.declared.ranges.Verdict.the-variants.{Sound, Misplaced, Overlap}
 
 kind-latency : (e : Ending) → kindOf e ≡ Latency → e ≡ latency
 kind-latency latency k = refl
@@ -56,7 +58,7 @@ module _ (s : List ℕ) (sm : Summary) (r : Summarised s sm) where
   page-same = ap (λ t. t .flags .page) (r .sums)
 
   pub page-some : 0 < sm .flags .page
-  page-some = omega (arith, page-same, page-is (r .whole .opening .page) (r .fits .0 .1))
+  page-some = omega (arith, page-same, r .fits .0 .1 .0)
 
   module _ (k : sm .ending ≡ Flyrecord) where
     is-fly : (rs : List Range) × (r .whole .tail .ending ≡ flyrecord rs)
@@ -86,24 +88,20 @@ pub too-long : (s : List ℕ) → limit < length s → refused tooLong ≡ summe
 unfolding summed decode
 too-long s h = rw (lt-leb (length s) limit h)
 
-module _ (total : ℕ) (h : Header) where
-  abbrev InFile : Bool → Type 0
-  InFile t = all (inFile (h .opening .page) (length (encode h)) total) (ranges (h .tail .ending)) ≡ t
+-- the answer that a verdict stands for
+answerOf : Verdict → Header → Answer Header
+answerOf Sound h = accepted h
+answerOf Misplaced h = refused badRange
+answerOf Overlap h = refused rangesOverlap
 
-  abbrev Apart : Bool → Type 0
-  Apart t = allApart (ranges (h .tail .ending)) ≡ t
-
-  checked-bad : InFile false → checked total h ≡ refused badRange
-  unfolding checked
-  checked-bad e = rw e
-
-  checked-overlap : InFile true → Apart false → checked total h ≡ refused rangesOverlap
-  unfolding checked
-  checked-overlap e f = rw (e, f)
-
-  checked-sound : InFile true → Apart true → checked total h ≡ accepted h
-  unfolding checked
-  checked-sound e f = rw (e, f)
+checked-is : (total : ℕ) (h : Header) → checked total h ≡ answerOf (verdict (inFile (h .opening .page) (length (encode h)) total) (ranges (h .tail .ending))) h
+unfolding checked answerOf
+checked-is total h = by (all (inFile (h .opening .page) (length (encode h)) total) (ranges (h .tail .ending))) (allApart (ranges (h .tail .ending)))
+  where
+    by : (p q : Bool) → cond p (cond q (accepted h) (refused rangesOverlap)) (refused badRange) ≡ answerOf (cond p (cond q Sound Overlap) Misplaced) h
+    by true true = refl
+    by true false = refl
+    by false q = refl
 
 module _ (s : List ℕ) (hb : Bytes s) (short : length s ≤ limit) where
   abbrev Answers : Answer Summary → Type 0
@@ -140,41 +138,39 @@ module _ (s : List ℕ) (hb : Bytes s) (short : length s ≤ limit) where
     unfolding summed
     answer-is x e = ap (λ x. next x (λ h. accepted (summary (length s) h))) (sym e ∙ sym decode-is)
 
-    accept : checked (length s) h ≡ accepted h → Answers (accepted sm)
-    accept e = ap accepted (sym (read .1)) ∙ answer-is (accepted h) e
+    judged : (v : Verdict) → v ≡ verdict (inFile (h .opening .page) (length (encode h)) (length s)) (ranges (h .tail .ending))
+        → next (answerOf v h) (λ h. accepted (summary (length s) h)) ≡ summed s
+    judged v e = answer-is (answerOf v h) (checked-is (length s) h ∙ ap (λ v. answerOf v h) (sym e))
+
+    sound : verdict (inFile (h .opening .page) (length (encode h)) (length s)) (ranges (h .tail .ending)) ≡ Sound → Answers (accepted sm)
+    unfolding answerOf
+    sound e = ap accepted (sym (read .1)) ∙ judged Sound (sym e)
 
     pub accept-text : sm .ending ≡ Latency → Answers (accepted sm)
     unfolding summarised
-    accept-text k =
-        let e = is-text s sm summarised k in
-        accept (checked-sound (length s) h (ap (λ e. all (inFile (h .opening .page) (length (encode h)) (length s)) (ranges e)) e) (ap (λ e. allApart (ranges e)) e))
+    accept-text k = sound (ap (λ e. verdict (inFile (h .opening .page) (length (encode h)) (length s)) (ranges e)) (is-text s sm summarised k))
 
     module _ (k : sm .ending ≡ Flyrecord) where
-      abbrev Passes : Bool → Type 0
-      Passes t = all (inFile (sm .flags .page) end (length s)) (stored s sm summarised k) ≡ t
+      abbrev Judged : Verdict → Type 0
+      Judged v = v ≡ verdict (inFile (sm .flags .page) end (length s)) (stored s sm summarised k)
 
-      passes-is : (t : Bool) → Passes t → InFile (length s) h t
+      judged-is : (v : Verdict) → Judged v → v ≡ verdict (inFile (h .opening .page) (length (encode h)) (length s)) (ranges (h .tail .ending))
       unfolding summarised
-      passes-is t e =
-          ap (λ p. all (inFile p (length (encode h)) (length s)) (ranges (h .tail .ending))) (page-same s sm summarised)
-          ∙ ap (λ n. all (inFile (sm .flags .page) n (length s)) (ranges (h .tail .ending))) end-is
-          ∙ ap (all (inFile (sm .flags .page) end (length s))) (sym (stored-ranges s sm summarised k)) ∙ e
+      judged-is v e =
+          e ∙ ap (λ p. verdict (inFile p end (length s)) (stored s sm summarised k)) (sym (page-same s sm summarised))
+          ∙ ap (λ n. verdict (inFile (h .opening .page) n (length s)) (stored s sm summarised k)) (sym end-is)
+          ∙ ap (verdict (inFile (h .opening .page) (length (encode h)) (length s))) (stored-ranges s sm summarised k)
 
-      abbrev Clear : Bool → Type 0
-      Clear t = allApart (stored s sm summarised k) ≡ t
+      pub bad-range : Judged Misplaced → Answers (refused badRange)
+      unfolding answerOf
+      bad-range e = judged Misplaced (judged-is Misplaced e)
 
-      clear-is : (t : Bool) → Clear t → Apart (length s) h t
-      unfolding summarised
-      clear-is t e = ap allApart (sym (stored-ranges s sm summarised k)) ∙ e
+      pub overlap : Judged Overlap → Answers (refused rangesOverlap)
+      unfolding answerOf
+      overlap e = judged Overlap (judged-is Overlap e)
 
-      pub bad-range : Passes false → Answers (refused badRange)
-      bad-range e = answer-is (refused badRange) (checked-bad (length s) h (passes-is false e))
-
-      pub overlap : Passes true → Clear false → Answers (refused rangesOverlap)
-      overlap e f = answer-is (refused rangesOverlap) (checked-overlap (length s) h (passes-is true e) (clear-is false f))
-
-      pub accept-entries : Passes true → Clear true → Answers (accepted sm)
-      accept-entries e f = accept (checked-sound (length s) h (passes-is true e) (clear-is true f))
+      pub accept-entries : Judged Sound → Answers (accepted sm)
+      accept-entries e = sound (sym (judged-is Sound e))
 
 -- ---- a CPU's range
 

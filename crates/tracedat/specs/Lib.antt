@@ -1,3 +1,4 @@
 pub mod Ranges
 pub mod Questions
 pub mod Numbers
+pub mod Accepted

@@ -6,11 +6,13 @@ use Prim.Native.Nat.{ℕ, _+_, _<_}
 use mathlib.Core.List.{List, [], _∷_}
 use lib.Dec.{leb, eqb}
 use Rattle.dat_format.specs.Header.{Range}
-use Rattle.dat_format.specs.Layout.{inFile, apart}
+use Rattle.dat_format.specs.Tests.{inFile, apart, all, allApart}
 use Rattle.tracedat.specs.declared.ranges.Later.{Later}
 use Rattle.tracedat.specs.declared.ranges.Later.the-variants.{At, Not}
 use Rattle.tracedat.specs.declared.ranges.Test.{Test}
 use Rattle.tracedat.specs.declared.ranges.Test.the-variants.{InFile, Apart}
+use Rattle.tracedat.specs.declared.ranges.Verdict.{Verdict}
+use Rattle.tracedat.specs.declared.ranges.Verdict.the-variants.{Sound, Misplaced, Overlap}
 
 abbrev pub rangeOf : ℕ → ℕ → Range
 rangeOf a n = record { offset = a; size = n }
@@ -23,6 +25,10 @@ testOf (Apart a n) = apart (rangeOf a n)
 abbrev pub testFits : Test → Type 0
 testFits (InFile page end total) = 0 < page
 testFits (Apart a n) = Unit {0}
+
+-- ranges of which one does not pass are misplaced, whether two overlap or not
+abbrev pub verdict : (Range → Bool) → List Range → Verdict
+verdict t rs = cond (all t rs) (cond (allApart rs) Sound Overlap) Misplaced
 
 -- ---- ranges in order
 

@@ -8,6 +8,7 @@ use dat_read::Walked;
 use dat_read::summary::EndingKind;
 use dat_read::summary::Summary;
 use ranges::Test;
+use ranges::Verdict;
 use refusals::BAD_RANGE;
 use refusals::LIMIT;
 use refusals::NOT_FOUND;
@@ -42,13 +43,11 @@ pub fn summary(file: &[u8]) -> SummaryAnswer
                         end: end as u64,
                         total: file.len() as u64,
                     };
-                    if !ranges::all_pass(file, order, test, n, place) {
-                        return SummaryAnswer::Refused(BAD_RANGE);
+                    match ranges::judge(file, order, test, n, place) {
+                        Verdict::Misplaced => SummaryAnswer::Refused(BAD_RANGE),
+                        Verdict::Overlap => SummaryAnswer::Refused(RANGES_OVERLAP),
+                        Verdict::Sound => SummaryAnswer::Accepted(summary),
                     }
-                    if !ranges::all_apart(file, order, n, place) {
-                        return SummaryAnswer::Refused(RANGES_OVERLAP);
-                    }
-                    SummaryAnswer::Accepted(summary)
                 }
             }
         }

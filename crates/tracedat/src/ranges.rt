@@ -4,9 +4,9 @@ ghost use mathlib.Core.Bool.{true};
 ghost use Prim.Native.Nat.{_+_, _*_, _<_, _≤_};
 ghost use lib.Dec.{leb};
 ghost use lib.ListN.{length};
-ghost use Rattle.dat_format.specs.Layout.{aligned, inFile, apart, all, allApart};
+ghost use Rattle.dat_format.specs.Tests.{aligned, inFile, apart, all, allApart};
 ghost use Rattle.dat_format.specs.Entries.{entries};
-ghost use Rattle.tracedat.specs.Ranges.{rangeOf, testOf, testFits, Leads};
+ghost use Rattle.tracedat.specs.Ranges.{rangeOf, testOf, testFits, Leads, verdict};
 use fields::Order;
 
 // Whether an offset is a multiple of the page size.
@@ -81,7 +81,7 @@ fn passes(test: Test, offset: u64, size: u64) -> bool
 }
 
 // Whether each of n entries from `from` on passes.
-pub(crate) fn all_pass(s: &[u8], order: Order, test: Test, n: u32, from: usize) -> bool
+fn all_pass(s: &[u8], order: Order, test: Test, n: u32, from: usize) -> bool
     requires { ⌜ testFits test × (from ≤ length (now s)) ⌝ }
     ensures { λ r. ⌜ r ≡ all (testOf test) (entries order (now (s .entry)) n from) ⌝ }
 {
@@ -148,7 +148,7 @@ fn in_order(s: &[u8], order: Order, n: u32, from: usize) -> bool
 }
 
 // Whether no two of n entries from `from` on overlap.
-pub(crate) fn all_apart(s: &[u8], order: Order, n: u32, from: usize) -> bool
+fn all_apart(s: &[u8], order: Order, n: u32, from: usize) -> bool
     requires { ⌜ from + 16 * n ≤ length (now s) ⌝ }
     ensures { λ r. ⌜ r ≡ allApart (entries order (now (s .entry)) n from) ⌝ }
 {
@@ -167,4 +167,25 @@ pub(crate) fn all_apart(s: &[u8], order: Order, n: u32, from: usize) -> bool
         }
     }
     true
+}
+
+// What n ranges are found to be.
+pub(crate) enum Verdict {
+    Sound,
+    Misplaced,
+    Overlap,
+}
+
+// Whether each of n entries from `from` on passes, and only then whether two overlap.
+pub(crate) fn judge(s: &[u8], order: Order, test: Test, n: u32, from: usize) -> Verdict
+    requires { ⌜ testFits test × (from + 16 * n ≤ length (now s)) ⌝ }
+    ensures { λ r. ⌜ r ≡ verdict (testOf test) (entries order (now (s .entry)) n from) ⌝ }
+{
+    if all_pass(s, order, test, n, from) {
+        if all_apart(s, order, n, from) {
+            return Verdict::Sound;
+        }
+        return Verdict::Overlap;
+    }
+    Verdict::Misplaced
 }

@@ -4,7 +4,7 @@ use mathlib.Core.Path.{_≡_, refl, sym, _∙_}
 use Prim.Native.Nat.{_+_, _*_, _≤_}
 use lib.ListN.{length}
 use borrow.Author.Tests.{not-true, not-false}
-use Rattle.dat_format.specs.Layout.{all}
+use Rattle.dat_format.specs.Tests.{all}
 use Rattle.dat_format.specs.Entries.{entries}
 use Rattle.tracedat.specs.Ranges.{testOf}
 use Rattle.tracedat.proofs.RangeLaws.{all-end, all-more, all-not}
