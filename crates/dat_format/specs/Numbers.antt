@@ -17,7 +17,8 @@ use Rattle.fields.specs.declared.Order.{Order}
 use Rattle.fields.specs.declared.Order.the-variants.{Little}
 use Rattle.dat_format.specs.Pieces.{such, fixed, after, times, sized, counted, name}
 use Rattle.dat_format.specs.Header.{Word, optionsWord, latencyWord, flyWord, Header, magic, tracing, version, pageWord, eventWord, encode}
-use Rattle.dat_format.specs.Layout.{isLong, isPage, mostCpus, ranges, inFile, all, allApart}
+use Rattle.dat_format.specs.Layout.{mostCpus, ranges}
+use Rattle.dat_format.specs.Tests.{isLong, isPage, inFile, all, allApart}
 use Rattle.dat_format.specs.Decode.{orderIn, sizes, flags, opening, system, sections, texts, isWord, word, optionsF, options}
 use Rattle.dat_format.specs.Decode.{range, ending, tailAfter, tail, header, checked, decode}
 use Rattle.dat_format.specs.Entries.{nth}

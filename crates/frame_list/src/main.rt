@@ -2,8 +2,7 @@
 ghost use mathlib.Core.Path.{_≡_};
 ghost use Prim.Native.Nat.{_≤_};
 ghost use lib.ListN.{length, take};
-ghost use Rattle.gdb_listing.specs.Text.{text, listed, little};
-use gdb_format::Settings;
+ghost use Rattle.gdb_listing.specs.Text.{text, listed};
 use gdb_listing::ListingAnswer;
 use libc::STDIN_FILENO;
 use libc::STDOUT_FILENO;
@@ -26,9 +25,9 @@ fn output_room() -> [u8; 196626]
 // The listing of `file` at the front of `output`, and its length.
 fn put_listing(file: &[u8], output: &mut [u8]) -> usize
     requires { ⌜ 196626 ≤ length (now output) ⌝ }
-    ensures { λ r. ⌜ (r ≤ length (now (output .exit))) × (take r (now (output .exit)) ≡ text (listed little (now (file .entry)))) ⌝ }
+    ensures { λ r. ⌜ (r ≤ length (now (output .exit))) × (take r (now (output .exit)) ≡ text (listed (now (file .entry)))) ⌝ }
 {
-    match gdb_listing::listing(Settings { order: 0 }, file, output) {
+    match gdb_listing::listing(file, output) {
         ListingAnswer::Written(n) => n,
         // The proof shows that this cannot be.
         ListingAnswer::NoRoom => 0,

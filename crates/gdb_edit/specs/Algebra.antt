@@ -29,7 +29,7 @@ use Rattle.gdb_edit.specs.Cut.{sift, join, joinOf}
 use Rattle.gdb_edit.specs.CutLaws.{cut-join, cut-cut, cut-comm, join-assoc, join-bare, cut-lengths, cut-shorter, join-longer, bytes-of, same-lines}
 use Rattle.gdb_edit.specs.Plan.{Plan, file, cutting, joining, value, HasRoom, bareOpening, result, returned, Done, Same, Given, JoinsFit, OutputsFit}
 use Rattle.gdb_edit.specs.PlanLaws.{lines-of, runs, same-value, bare-given, returns-length}
-use Rattle.gdb_edit.specs.Standing.{framesOf, StandsIn, HoldsFrames, OneOf, holds-frames, in-one}
+use Rattle.gdb_edit.specs.Standing.{framesOf, StandsIn, HoldsFrames, ExactlyOne, holds-frames, in-one}
 use Rattle.gdb_edit.specs.declared.Selection.{Selection}
 
 -- identical openings are identical lines
@@ -42,7 +42,7 @@ pub record Parted (s : Settings) (f : Format) (c : meant.Selection) (p x y : Pla
   pub kept-done : Done s x
   pub dropped-done : Done s y
   pub in-exactly-one : (n : ℕ) → n < length (framesOf f (decode f (result s p)))
-      → OneOf (StandsIn f c (result s p) (result s x) n) (StandsIn f (opposite c) (result s p) (result s y) n)
+      → ExactlyOne (StandsIn f c (result s p) (result s x) n) (StandsIn f (opposite c) (result s p) (result s y) n)
   pub kept-holds : HoldsFrames f c (result s p) (result s x)
   pub dropped-holds : HoldsFrames f (opposite c) (result s p) (result s y)
 

@@ -52,8 +52,8 @@ module _ (f : Format) (c : Selection) (b d : List ℕ) where
     pub nothing-else : (k : ℕ) → k < length (framesOf f (decode f d)) → (n : ℕ) × StandsIn n × (before f c b n ≡ k)
 
 -- exactly one of two
-abbrev pub OneOf : Type 0 → Type 0 → Type 0
-OneOf X Y = (X × (Y → ⊥)) ⊎ ((X → ⊥) × Y)
+abbrev pub ExactlyOne : Type 0 → Type 0 → Type 0
+ExactlyOne X Y = (X × (Y → ⊥)) ⊎ ((X → ⊥) × Y)
 
 -- ---- lists
 
@@ -163,7 +163,7 @@ module _ (f : Format) (c : Selection) (b d : List ℕ) (t : Trace) (i : File f b
 
 -- each frame stands in exactly one of the cut by a selection and the cut by its opposite
 module _ (f : Format) (c : Selection) (b d x : List ℕ) (t : Trace) (i : File f b t) (j : File f d (cut c t)) (k : File f x (cut (opposite c) t)) where
-  pub in-one : (n : ℕ) → n < length (framesOf f (decode f b)) → OneOf (StandsIn f c b d n) (StandsIn f (opposite c) b x n)
+  pub in-one : (n : ℕ) → n < length (framesOf f (decode f b)) → ExactlyOne (StandsIn f c b d n) (StandsIn f (opposite c) b x n)
   in-one n l =
       let y = nth-some (putFrame f) (t .frames) n (subst (λ z. n < length (framesOf f z)) (decode-file f b t i) l) in
       by (y .0) (y .1) (picks c (y .0)) refl
@@ -171,7 +171,7 @@ module _ (f : Format) (c : Selection) (b d x : List ℕ) (t : Trace) (i : File f
       other : (r : Frame) (w : Bool) → picks c r ≡ w → picks (opposite c) r ≡ not w
       other r w e = picks-other c r ∙ ap not e
 
-      by : (r : Frame) → nth (t .frames) n ≡ accepted r → (w : Bool) → picks c r ≡ w → OneOf (StandsIn f c b d n) (StandsIn f (opposite c) b x n)
+      by : (r : Frame) → nth (t .frames) n ≡ accepted r → (w : Bool) → picks c r ≡ w → ExactlyOne (StandsIn f c b d n) (StandsIn f (opposite c) b x n)
       by r e true p =
           inl (made f c b d t i j n r e p, λ y. let z : _≡_ {A = Bool} true false = sym (chosen f (opposite c) b x t i k n r e y) ∙ other r true p in clash (cc))
       by r e false p =

@@ -7,16 +7,18 @@ use Prim.Native.Nat.{ℕ, suc, _+_, _*_, _<_, _≤_}
 use native.Mathlib.Omega.{arith}
 use mathlib.Core.List.{List, [], _∷_, _++_, map}
 use lib.ListN.{length, length-append}
-use lib.Dec.{ltb}
+use lib.Dec.{ltb, lit≤}
 use borrow.Author.Tests.{lt-ltb, le-ltb, ltb-false}
-use Rattle.refusals.specs.Refusal.{tooLong}
+use Rattle.refusals.specs.Refusal.{tooLong, last, Listed}
 use Rattle.fields.specs.Lists.{flat, Each}
 use Rattle.fields.specs.Number.{Bytes, field, length-field}
 use Rattle.fields.specs.Answer.{Answer, accepted, refused, next}
+use Rattle.fields.specs.Refuses.{refuses-in}
 use Rattle.gdb_format.specs.Trace.{Frame, Trace, opening, putFrame, dataOf}
 use Rattle.gdb_format.specs.Lines.{registerSize}
 use Rattle.gdb_format.specs.Layout.{FrameFits}
 use Rattle.gdb_format.specs.Decode.{read}
+use Rattle.gdb_format.specs.Numbers.{fileNumbers, file-numbers}
 use Rattle.gdb_format.specs.declared.Format.{Format}
 use Rattle.gdb_format.specs.declared.Settings.{Settings}
 use Rattle.gdb_read.specs.Steps.{Row, frameSeen, Summary, readSeen}
@@ -26,7 +28,7 @@ use Rattle.gdb_frames.specs.Nth.{nthHead, shownNth}
 use Rattle.gdb_frames.specs.File.{File, file-of, asked-refused, told}
 use Rattle.gdb_frames.specs.Located.{head-nth}
 use Rattle.gdb_listing.specs.Text.{decimal, ended, lineOf, framesWord, refusedWord, text, listingLimit, little, wholeTable, listed}
-use Rattle.gdb_listing.specs.DecimalLaws.{ended-length, line-short}
+use Rattle.gdb_listing.specs.DecimalLaws.{decimal-long, ended-length, line-short}
 use Rattle.gdb_listing.specs.Written.{Puts, puts-then}
 use Rattle.gdb_listing.specs.Rows.{rowsFrom, Listable}
 
@@ -140,3 +142,26 @@ module _ (b : List ℕ) (h : length b ≤ listingLimit) where
     listed-listable = told little b g m e (λ m. Listable (m .format) b (m .frames) (m .start)) (λ f t r i. listable f b t i h)
 
 -- 196,626 bytes have room for every listing: a frame takes at least 6 bytes of the file, so its line at most 3 for each of them
+refusal-short : (n : ℕ) → n ≤ last → length (text (refused n)) ≤ 196626
+refusal-short n h = omega (arith, refusal-length n, decimal-long 1 n (omega arith))
+
+rows-short : (f : Format) (b : List ℕ) (t : Trace) → length b ≤ listingLimit → File f b t → length (text (accepted (table f t))) ≤ 196626
+rows-short f b t h i =
+    let l = listable f b t i h in
+    let e = rows-table f b t i in
+    let k = table-length f b (length (t .frames)) (length (opening (t .lines))) l in
+    let few = frames-few f b t i in
+    subst (λ rows. length (text (accepted rows)) ≤ 196626) e (omega (arith, k, l .short, few, decimal-long 4 (length (t .frames)) (omega arith)))
+
+module _ (b : List ℕ) (g : Bytes b) where
+  asked-short : length b ≤ listingLimit → (x : Answer (Format × Trace)) → read little b ≡ x → length (text (next x (λ r. wholeTable (r .0) (r .1)))) ≤ 196626
+  asked-short h (accepted (f, t)) e = rows-short f b t h (file-of little b f t g e)
+  asked-short h (refused n) e = refusal-short n ((refuses-in {P = Listed} fileNumbers (search lit≤) (file-numbers little b)) .only n e .1)
+
+  pub room-enough : length (text (listed b)) ≤ 196626
+  unfolding listed
+  room-enough = by (ltb listingLimit (length b)) refl
+    where
+      by : (t : Bool) → ltb listingLimit (length b) ≡ t → length (text (cond t (refused tooLong) (asked little b wholeTable))) ≤ 196626
+      by true e = refusal-short tooLong (omega arith)
+      by false e = asked-short (ltb-false listingLimit (length b) e) (read little b) refl
