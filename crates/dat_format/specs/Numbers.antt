@@ -64,7 +64,7 @@ module _ {P : ℕ → Type 0} where
 abbrev pub headerNumbers : List ℕ
 headerNumbers = fieldPastFile ∷ badConstant ∷ badRange ∷ []
 
--- a part reads with 14 to 16 only
+-- a reader that refuses with these only
 abbrev Part : {A : Type 0} → Reader A → Type 0
 Part p = Refusing (OneOf headerNumbers) p
 

@@ -97,13 +97,19 @@ module _ (f : Format) where
       refusing-then (refusing-bytes 8 badHead tt) (λ h.
       refusing-cond (starts head h) (record { reading = lines-numbers [] [] }) (refusing-refuse tt))
 
--- ---- a file: 1, and then front to back; 2 for the settings before all
+-- ---- a file: 2 for the settings, then 1, then front to back
 
 abbrev pub traceNumbers : List ℕ
 traceNumbers = openingNumbers ++ frameNumbers
 
+abbrev pub decodeNumbers : List ℕ
+decodeNumbers = tooLong ∷ traceNumbers
+
+abbrev pub settingsNumbers : List ℕ
+settingsNumbers = badArgument ∷ []
+
 abbrev pub fileNumbers : List ℕ
-fileNumbers = badArgument ∷ tooLong ∷ traceNumbers
+fileNumbers = settingsNumbers ++ decodeNumbers
 
 module _ (f : Format) (b : List ℕ) where
   pub trace-numbers : Refuses (OneOf traceNumbers) (trace f b)
@@ -112,7 +118,7 @@ module _ (f : Format) (b : List ℕ) where
       refuses-next (refuses-in openingNumbers _ (opening-numbers f .reading b)) (λ r.
       refuses-next (refuses-to-end (refusing-in frameNumbers _ (frame-numbers f (registerSize f (r .0)))) (r .1)) (λ fs. refuses-never))
 
-  pub decode-numbers : Refuses (OneOf (tooLong ∷ traceNumbers)) (decode f b)
+  pub decode-numbers : Refuses (OneOf decodeNumbers) (decode f b)
   unfolding decode
   decode-numbers = refuses-cond (leb (length b) limit) (refuses-in traceNumbers _ trace-numbers) (refuses-with tt)
 
@@ -121,12 +127,12 @@ module _ (f : Format) (b : List ℕ) where
   unfolding decode
   trace-too-long = refuses-too-long (length b) trace-numbers (λ e. e)
 
-order-numbers : (n : ℕ) → Refuses (OneOf (badArgument ∷ [])) (orderOf n)
+order-numbers : (n : ℕ) → Refuses (OneOf settingsNumbers) (orderOf n)
 order-numbers zero = refuses-never
 order-numbers (suc zero) = refuses-never
 order-numbers (suc (suc n)) = refuses-with tt
 
-pub settings-numbers : (s : Settings) → Refuses (OneOf (badArgument ∷ [])) (settingsOf s)
+pub settings-numbers : (s : Settings) → Refuses (OneOf settingsNumbers) (settingsOf s)
 settings-numbers s = refuses-next (order-numbers (s .order)) (λ o. refuses-never)
 
 -- `read`, by what the settings name
@@ -137,8 +143,8 @@ module _ (s : Settings) (b : List ℕ) where
   pub file-numbers : Refuses (OneOf fileNumbers) (read s b)
   unfolding read
   file-numbers =
-      refuses-next (refuses-in (badArgument ∷ []) _ (settings-numbers s)) (λ f.
-      refuses-next (refuses-in (tooLong ∷ traceNumbers) _ (decode-numbers f b)) (λ t. refuses-never))
+      refuses-next (refuses-in settingsNumbers _ (settings-numbers s)) (λ f.
+      refuses-next (refuses-in decodeNumbers _ (decode-numbers f b)) (λ t. refuses-never))
 
   -- 2 exactly where the settings are wrong
   pub file-argument : (read s b ≡ refused badArgument) ↔ (settingsOf s ≡ refused badArgument)
@@ -154,7 +160,7 @@ module _ (s : Settings) (b : List ℕ) where
   unfolding read
   file-too-long = by (settingsOf s) (settings-numbers s)
     where
-      by : (x : Answer Format) → Refuses (OneOf (badArgument ∷ [])) x
+      by : (x : Answer Format) → Refuses (OneOf settingsNumbers) x
           → (readAs b x ≡ refused tooLong) ↔ ((f : Format) × (x ≡ accepted f) × (limit < length b))
       by (accepted f) h = (
         (λ e. (f, refl, (trace-too-long f b) .0 (refused-inv tooLong (decode f b) _ (sym e)))),

@@ -27,7 +27,7 @@ module _ {P : ℕ → Type 0} where
       → Each P fileNumbers → ((f : Format) (t : Trace) → Refuses P (q f t)) → Refuses P (asked s b q)
   asked-numbers s b h g = refuses-next (refuses-in fileNumbers h (file-numbers s b)) (λ r. g (r .0) (r .1))
 
-  pub frame-row-numbers : (n : ℕ) (f : Format) (t : Trace) → P notFound → Refuses P (frameRow n f t)
+  frame-row-numbers : (n : ℕ) (f : Format) (t : Trace) → P notFound → Refuses P (frameRow n f t)
   frame-row-numbers n f t h = refuses-next (nth-numbers (framesAt f t) n h) (λ r. refuses-never)
 
   pub frame-data-numbers : (n : ℕ) (f : Format) (t : Trace) → P notFound → Refuses P (frameData n f t)
