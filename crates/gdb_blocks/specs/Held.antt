@@ -1,4 +1,4 @@
--- What the blocks of a frame hold, and what an answer shows. Nothing here speaks of where a block stands.
+-- What the blocks of a frame hold, wherever they stand, and what an answer names.
 -- Assumes nothing: these are definitions.
 use mathlib.Core.Path.{_≡_}
 use mathlib.Core.Bool.{cond}
@@ -51,7 +51,7 @@ blockHeld n k f t = next (nth (t .frames) n) (λ r. nth (r .blocks) k)
 
 -- ---- an answer
 
--- what `h` tells of an answer; a refusal stays
+-- the answer through `h`; a refusal stays
 abbrev pub mapped : {A C : Type 0} → (A → C) → Answer A → Answer C
 mapped h x = next x (λ y. accepted (h y))
 

@@ -1,5 +1,6 @@
 -- What is answered about blocks is what the trace holds (Held.antt). At the place and of the length that are answered stand the block's own bytes, none of them
 -- early or late; at the place of a block's record stands the block. So it is for every file, frame and address, and for all settings: in both byte orders.
+-- A reader that starts a register block sixteen bytes late, and so shows v1 where v0 should be, answers against `registers-stand` and `piece-shown`.
 -- Assumes nothing.
 use mathlib.Core.Path.{_≡_, refl, sym, ap, _∙_}
 use mathlib.Core.Logic.{_↔_}
@@ -95,9 +96,11 @@ shows s b n g p k x e i =
     }
 
 module _ (s : Settings) (b : List ℕ) (h : Bytes b) (n p k : ℕ) where
+  -- where the registers question answers (p, k)
   pub registers-stand : asked s b (registersAt n) ≡ accepted (p, k) → BytesShown s b n registersOf p k
   registers-stand = shows s b n registersOf p k (asked s b (registersAt n)) (registers-shown s b h n)
 
+  -- where the question about memory at a answers (p, k)
   pub memory-stand : (a : ℕ) → asked s b (memoryAt a n) ≡ accepted (p, k) → BytesShown s b n (memoryOf a) p k
   memory-stand a = shows s b n (memoryOf a) p k (asked s b (memoryAt a n)) (memory-shown s b h n a)
 
@@ -157,6 +160,7 @@ pub record BlockStands (s : Settings) (b : List ℕ) (n k p : ℕ) (c : Carried)
   pub registers-behind : (d : List ℕ) → block ≡ registers d → take (length d) (drop (p + 1) b) ≡ d
   pub memory-behind : (a : ℕ) (d : List ℕ) → block ≡ memory a d → take (length d) (drop (p + 11) b) ≡ d
 
+-- where the question about block k answers the place p and the kind c
 pub block-stands : (s : Settings) (b : List ℕ) (n k p : ℕ) (c : Carried) → Bytes b → asked s b (blockAt n k) ≡ accepted (p, c) → BlockStands s b n k p c
 block-stands s b n k p c h e =
     let u = next-inv (read s b) (λ r. blockAt n k (r .0) (r .1)) e in
