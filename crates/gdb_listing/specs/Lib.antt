@@ -5,3 +5,4 @@ pub mod Rows
 pub mod Outcome
 pub mod Table
 pub mod Cases
+pub mod Numbers
