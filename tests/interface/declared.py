@@ -6,7 +6,9 @@ from header import ROOT
 STRUCT = re.compile(r'#\[repr\(C\)\]\s*(?:#\[[^\]]*\]\s*)*(?:pub )?struct (\w+) \{([^}]*)\}')
 CALL = re.compile(r'\bfn (tfk_\w+)\(([^)]*)\) -> (\w+)')
 MEMBER = re.compile(r'(?:pub )?(\w+): ([^,;]+(?:; \d+\])?),?')
-NUMBERS = {'u8': 'uint8_t', 'u16': 'uint16_t', 'u32': 'uint32_t', 'u64': 'uint64_t', 'i64': 'int64_t', 'usize': 'size_t'}
+NUMBERS = {
+    'u8': 'uint8_t', 'u16': 'uint16_t', 'u32': 'uint32_t', 'u64': 'uint64_t', 'i64': 'int64_t', 'usize': 'size_t',
+}
 # The one struct that has another name in C.
 NAMES = {'FrameRecord': 'Frame'}
 
@@ -34,10 +36,18 @@ def parameters(text):
             yield name, c_type(kind)
 
 
+def once(pairs):
+    """Pairs as a mapping; no name may stand twice."""
+    found = dict(pairs)
+    if len(found) < len(pairs):
+        raise ValueError(f'declared twice, among {", ".join(name for name, _ in pairs)}')
+    return found
+
+
 def declared(*sources):
     """The structs and the calls that these files declare, each as the header's reading has them."""
     text = ''.join((ROOT / source).read_text() for source in sources)
-    structs = {c_type(name): [(field, c_type(kind)) for field, kind in MEMBER.findall(fields)]
-               for name, fields in STRUCT.findall(text)}
-    calls = {name: (c_type(answer), list(parameters(given))) for name, given, answer in CALL.findall(text)}
+    structs = once([(c_type(name), [(field, c_type(kind)) for field, kind in MEMBER.findall(fields)])
+                    for name, fields in STRUCT.findall(text)])
+    calls = once([(name, (c_type(answer), list(parameters(given)))) for name, given, answer in CALL.findall(text)])
     return structs, calls

@@ -1,4 +1,4 @@
-"""The layout of the interface as text: what the compiler makes of the header's structs, then its calls and named numbers.
+"""The layout of the interface as text: what the compiler makes of the header's structs; its calls and named numbers.
 
 Each number of the interface has its layout stored once, in layout-NUMBER.txt. As a command:
     layout.py               prints the header's layout
@@ -12,10 +12,11 @@ from pathlib import Path
 import header
 
 STORED = 'layout-{}.txt'
-CHANGED = f"""The header no longer has the layout that is stored for its number. Where the change is meant: raise the number by one
-in {header.HEADER.name} (TFK_INTERFACE), crates/trace_c (specs/Interface.antt and src/interface.rt), bindings/rust/src/raw.rs,
-tests/rust/src/c.rs and bindings/python/tufakpeni/_library.py, then run tests/interface/layout.py --store.
-A layout that is stored is never changed."""
+CHANGED = """The header no longer has the layout that is stored for its number. Where the change is meant:
+1. Raise the number by one: TFK_INTERFACE in include/tufakpeni.h; specs/Interface.antt, src/interface.rt and
+   must-fail/another_number.edit in crates/trace_c; INTERFACE in bindings/rust/src/raw.rs, tests/rust/src/c.rs and
+   bindings/python/tufakpeni/_library.py.
+2. Run python3 tests/interface/layout.py --store. A layout that is stored is never changed."""
 
 
 def stored(number):
@@ -42,8 +43,8 @@ def printing(structs):
 def measured(structs):
     with tempfile.TemporaryDirectory() as folder:
         program = Path(folder) / 'layout'
-        command = ['gcc', '-std=c99', '-Wall', '-Wextra', '-Werror', f'-I{header.HEADER.parent}', '-x', 'c', '-', '-o', program]
-        subprocess.run(command, input='\n'.join(printing(structs)) + '\n', text=True, check=True)
+        words = ['gcc', '-std=c99', '-Wall', '-Werror', f'-I{header.HEADER.parent}', '-x', 'c', '-', '-o', program]
+        subprocess.run(words, input='\n'.join(printing(structs)) + '\n', text=True, check=True)
         return subprocess.run([program], stdout=subprocess.PIPE, text=True, check=True).stdout
 
 

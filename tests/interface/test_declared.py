@@ -1,12 +1,11 @@
-"""The library's own source and the two declarations of it in Rust have the header's structs and calls, field by field."""
+"""The library's own source and both declarations of it in Rust have the header's structs and calls, field by field."""
 import unittest
 
 import header
-from declared import declared
+from declared import CALL, declared
 
-# The files that hold what the library exports, and the structs that its calls have.
-LIBRARY = [*(f'crates/trace_c/src/{name}.rt' for name in ('dat', 'edits', 'interface', 'questions')),
-           *(f'crates/{name}/src/lib.rt' for name in ('gdb_edit', 'gdb_format', 'gdb_table'))]
+# Every struct that C can see and every exported call is somewhere in the crates.
+LIBRARY = sorted(header.ROOT.glob('crates/*/src/**/*.rt'))
 WRAPPER = 'bindings/rust/src/raw.rs'
 TESTS = 'tests/rust/src/c.rs'
 
@@ -28,6 +27,14 @@ class Declared(unittest.TestCase):
         structs, calls = declared(WRAPPER)
         unused = {'tfk_frame_place': self.header.calls['tfk_frame_place']}
         self.assertEqual((structs, {**calls, **unused}), (self.header.structs, self.header.calls))
+
+    def test_the_rust_wrapper_asks_before_every_call(self):
+        """What is declared outside the macro, which asks for the number first, is the number's own call."""
+        folder = (header.ROOT / WRAPPER).parent
+        declaring = [path for path in folder.rglob('*.rs') if 'extern "C"' in path.read_text()]
+        self.assertEqual(declaring, [header.ROOT / WRAPPER])
+        outside, _ = declaring[0].read_text().split('\ncalls! {\n')
+        self.assertEqual([name for name, *_ in CALL.findall(outside)], ['tfk_interface'])
 
 
 if __name__ == '__main__':

@@ -1,4 +1,4 @@
-"""The C test of the fields tells any two fields of any struct apart: with a header in which they are exchanged it fails."""
+"""The C test of the fields tells any two fields of a struct apart: with a header that exchanges them it fails."""
 import itertools
 import os
 import re
@@ -40,8 +40,8 @@ class Exchanged(unittest.TestCase):
         folder.mkdir()
         (folder / header.HEADER.name).write_text(text)
         program = folder / 'fields'
-        words = ['gcc', f'-I{folder}', f'-I{TESTS}', '-x', 'c', '-', '-x', 'none', *self.objects, ARCHIVE, '-o', program]
-        subprocess.run(words, input=DEPENDENT, text=True, check=True)
+        words = ['gcc', f'-I{folder}', f'-I{TESTS}', '-x', 'c', '-', '-x', 'none', *self.objects, ARCHIVE]
+        subprocess.run([*words, '-o', program], input=DEPENDENT, text=True, check=True)
         return subprocess.run([program], stdout=subprocess.DEVNULL, timeout=SECONDS).returncode == 0
 
     def test_as_it_is(self):

@@ -1,4 +1,4 @@
-"""A library whose interface has another number is not used: C, Rust and Python each end with both numbers and show nothing."""
+"""A library of another number is not used: C, Rust and Python end with both numbers and show nothing."""
 import os
 import subprocess
 import sys
@@ -13,6 +13,14 @@ ROOT = header.ROOT
 SAMPLE = 'samples/masks.tf'
 # The last 32 bits are those of the right number.
 OTHER = header.read().number + 2 ** 32
+TWICE = """
+import tufakpeni
+for _ in range(2):
+    try:
+        tufakpeni.Selection(()).opposite()
+    except tufakpeni.LibraryUnfit:
+        print('unfit')
+"""
 NUMBERED = f'unsigned long long tfk_interface(void) {{ return {OTHER}ULL; }}\n'
 
 
@@ -57,23 +65,31 @@ class Another(unittest.TestCase):
 
     def test_rust(self):
         environment = with_(TUFAKPENI_ARCHIVE=str(self.other), CARGO_TARGET_DIR=str(self.folder / 'cargo'))
-        ended = run('cargo', 'run', '--quiet', '--offline', '--manifest-path', 'bindings/rust/Cargo.toml', '--example', 'v0', '--',
-                    SAMPLE, env=environment)
+        ended = run('cargo', 'run', '--quiet', '--offline', '--manifest-path', 'bindings/rust/Cargo.toml',
+                    '--example', 'v0', '--', SAMPLE, env=environment)
         self.says(ended, 101, f"the library's interface has the number {OTHER}, this crate's {header.read().number}")
 
-    def python(self, archive):
+    def python(self, archive, *words):
         shared = self.folder / 'libtufakpeni.so'
-        subprocess.run(['gcc', '-shared', '-o', shared, '-Wl,--whole-archive', archive, '-Wl,--no-whole-archive'], check=True)
+        whole = ['-Wl,--whole-archive', archive, '-Wl,--no-whole-archive']
+        subprocess.run(['gcc', '-shared', '-o', shared, *whole], check=True)
         environment = with_(TUFAKPENI_LIBRARY=str(shared), PYTHONPATH=str(ROOT / 'bindings/python'))
-        return run(sys.executable, '-m', 'tufakpeni', SAMPLE, env=environment)
+        return run(sys.executable, *words, env=environment)
 
     def test_python(self):
-        self.says(self.python(self.other), 2, f'libtufakpeni.so has the interface of number {OTHER}',
+        self.says(self.python(self.other, '-m', 'tufakpeni', SAMPLE), 2,
+                  f'libtufakpeni.so has the interface of number {OTHER}',
                   f'this module needs the interface of number {header.read().number}', 'rt staticlib trace_c')
 
     def test_python_without_a_number(self):
-        self.says(self.python(self.older), 2, 'libtufakpeni.so has no number of its interface',
+        self.says(self.python(self.older, '-m', 'tufakpeni', SAMPLE), 2,
+                  'libtufakpeni.so has no number of its interface',
                   f'this module needs the interface of number {header.read().number}', 'rt staticlib trace_c')
+
+    def test_python_again(self):
+        """A caller that goes on after the error gets it again."""
+        ended = self.python(self.other, '-c', TWICE)
+        self.assertEqual(ended.stdout, 'unfit\nunfit\n', ended.stderr)
 
 
 if __name__ == '__main__':
