@@ -10,7 +10,7 @@ use lib.ListN.{length, take, drop, length-append, length-drop}
 use lib.Seq.{take-at}
 use Rattle.fields.specs.Lists.{flat, length-part}
 use Rattle.fields.specs.Number.{Bytes, bytes-drop}
-use Rattle.fields.specs.Answer.{accepted, refused, next, next-inv, never}
+use Rattle.fields.specs.Answer.{accepted, refused, next-inv, never}
 use Rattle.fields.specs.Reader.{toEnd, stepAt}
 use Rattle.fields.specs.At.{Turn, walk-end, walk-refused, walk-more}
 use Rattle.gdb_format.specs.Trace.{putData}
