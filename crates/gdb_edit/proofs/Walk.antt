@@ -77,4 +77,6 @@ module _ {f : Format} {b : List ℕ} {at : ℕ} {v : Row} {m : ℕ} (p : Passed 
   kept-no e = p .keeps c ∙ rw e
 
   pub length-yes : selects c (v .tracepoint) ≡ true → length (kept f c (drop at b)) ≡ (m - at) + length (kept f c (drop m b))
-  length-yes e = ap length (kept-yes e) ∙ length-append (take (m - at) (drop at b)) (kept f c (drop m b)) ∙ ap (λ n. n + length (kept f c (drop m b))) (part-long p)
+  length-yes e =
+      ap length (kept-yes e) ∙ length-append (take (m - at) (drop at b)) (kept f c (drop m b))
+      ∙ ap (λ n. n + length (kept f c (drop m b))) (part-long p)

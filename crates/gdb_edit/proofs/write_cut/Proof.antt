@@ -117,10 +117,10 @@ returns-2 c =
     heads-never (a .format) (a .file .now) (h .loop .at) (c .enum-told2 .given .0 .0) (h .loop .inv .1) (ap frameMeaning (sym (c .enum-told2 .given .1)) ∙ c .before .before .head-at .ensures)
 
 slice-aggregate-copy : tie.Need-slice-aggregate-copy Inv-loop μ-loop
-slice-aggregate-copy c = sym (length-take-le (c .before .before .before .args .start) (c .before .before .before .args .file .now) (c .before .before .before .pre .0))
+slice-aggregate-copy c = let q : tie.Start Inv-loop μ-loop = search in sym (length-take-le (q .args .start) (q .args .file .now) (q .pre .0))
 
 copy-requires : tie.Need-copy-requires Inv-loop μ-loop
-copy-requires c κs = omega (arith, length-take-le (c .before .before .before .before .args .start) (c .before .before .before .before .args .file .now) (c .before .before .before .before .pre .0), c .before .before .before .before .pre .3)
+copy-requires c κs = let q : tie.Start Inv-loop μ-loop = search in omega (arith, length-take-le (q .args .start) (q .args .file .now) (q .pre .0), q .pre .3)
 
 same-length : tie.Need-same-length Inv-loop μ-loop
 same-length c = (room (c .before .before .before)) .1
