@@ -10,7 +10,7 @@ use lib.ListN.{length, take, drop, length-append, length-drop}
 use lib.Seq.{take-at}
 use Rattle.fields.specs.Lists.{flat, length-part}
 use Rattle.fields.specs.Number.{Bytes, bytes-drop}
-use Rattle.fields.specs.Answer.{accepted, refused, next, next-inv, never}
+use Rattle.fields.specs.Answer.{accepted, refused, next-inv, never}
 use Rattle.fields.specs.Reader.{toEnd, stepAt}
 use Rattle.fields.specs.At.{Turn, walk-end, walk-refused, walk-more}
 use Rattle.gdb_format.specs.Trace.{putData}
@@ -77,4 +77,6 @@ module _ {f : Format} {b : List ℕ} {at : ℕ} {v : Row} {m : ℕ} (p : Passed 
   kept-no e = p .keeps c ∙ rw e
 
   pub length-yes : selects c (v .tracepoint) ≡ true → length (kept f c (drop at b)) ≡ (m - at) + length (kept f c (drop m b))
-  length-yes e = ap length (kept-yes e) ∙ length-append (take (m - at) (drop at b)) (kept f c (drop m b)) ∙ ap (λ n. n + length (kept f c (drop m b))) (part-long p)
+  length-yes e =
+      ap length (kept-yes e) ∙ length-append (take (m - at) (drop at b)) (kept f c (drop m b))
+      ∙ ap (λ n. n + length (kept f c (drop m b))) (part-long p)

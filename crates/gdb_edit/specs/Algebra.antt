@@ -5,9 +5,9 @@
 --   room; no cut or join in it is then refused. Results are equal when their lengths and all bytes up to those lengths are."
 --
 -- A plan is a file or a cut or join of plans, each with its lent output (Plan.antt). `Given`, `JoinsFit` and `OutputsFit` are the premises: the traces and
--- selections, the limit at each join, the room at each call. Of the two plans in a sentence the joins of the first are to be within the limit; the second's then are.
+-- selections, the limit at each join, the room at each call. Of two plans in a sentence the first's joins are to be within the limit; the second's then are.
 -- `Done`: no call is refused. `result`: the output of the last call up to the returned length, `returned`. `Same`: nothing is refused, the results are equal.
--- That all openings are identical is said as: all traces have the lines ls. Openings of accepted traces are identical exactly where their lines are (`one-opening`).
+-- That all openings are identical is said as: all traces have the lines ls. Accepted traces with identical openings have identical lines (`one-opening`).
 -- Assumes nothing.
 use mathlib.Core.Path.{_≡_, sym, ap, _∙_, subst}
 use mathlib.Core.Bool.{_&&_}

@@ -100,7 +100,8 @@ module _ (s : Settings) (a b : List ℕ) (f : Format) (t u : Trace) (i : Both s 
 
   pub join-differs : (take (length (opening (t .lines))) a ≡ take (length (opening (u .lines))) b → ⊥) → joinOf s a b ≡ refused openingsDiffer
   join-differs h =
-      open-join ∙ rw (differ (opening (t .lines)) (opening (u .lines)) _ (λ e. h (opening-front f a t (i .first-file) ∙ e ∙ sym (opening-front f b u (i .second-file)))) refl)
+      let n : opening (t .lines) ≡ opening (u .lines) → ⊥ = λ e. h (opening-front f a t (i .first-file) ∙ e ∙ sym (opening-front f b u (i .second-file))) in
+      open-join ∙ rw (differ (opening (t .lines)) (opening (u .lines)) _ n refl)
 
   module _ (e : take (length (opening (t .lines))) a ≡ take (length (opening (u .lines))) b) where
     one-opening : opening (t .lines) ≡ opening (u .lines)

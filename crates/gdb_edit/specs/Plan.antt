@@ -34,10 +34,12 @@ abbrev pub upTo : Answer ℕ → List ℕ → List ℕ
 upTo (accepted n) l = take n l
 upTo (refused n) l = []
 
+-- a call that was not refused
 abbrev pub IsWritten : Answer ℕ → Type 0
 IsWritten (accepted n) = Unit {0}
 IsWritten (refused n) = ⊥
 
+-- an output that is no shorter than what a call gives
 abbrev pub HasRoom : Answer (List ℕ) → List ℕ → Type 0
 HasRoom x out = (c : List ℕ) → x ≡ accepted c → length c ≤ length out
 

@@ -9,7 +9,7 @@ use borrow.Author.Tests.{le-leb}
 use Rattle.fields.specs.Number.{Bytes, bytes-front}
 use Rattle.fields.specs.Answer.{Answer, accepted, refused, next}
 use Rattle.fields.specs.Output.{fitting, over, answer, exit}
-use Rattle.gdb_format.specs.Trace.{Trace, traceOf, opening, encode}
+use Rattle.gdb_format.specs.Trace.{traceOf, opening, encode}
 use Rattle.gdb_format.specs.Settings.{settingsOf}
 use Rattle.gdb_format.specs.Decode.{read}
 use Rattle.gdb_format.specs.Exactness.{read-exactness}

@@ -17,7 +17,7 @@ use Rattle.gdb_frames.specs.Places.{framesAt, nth}
 use Rattle.gdb_frames.specs.Questions.{asked, frameData}
 use Rattle.gdb_frames.specs.PlaceLaws.{placed-nth}
 use Rattle.gdb_edit.specs.Cut.{join, joinOf}
-use Rattle.gdb_pair.specs.Pair.{Side, first, second, onSide, sided, pairPlace}
+use Rattle.gdb_pair.specs.Pair.{Side, first, second, onSide, pairPlace}
 use Rattle.gdb_pair.specs.PairLaws.{Joined, joined, placeOf, nth-first, nth-second, place-is, asked-join, place-refused}
 
 -- ---- definitions: the length that an answer names, or its refusal
@@ -46,19 +46,24 @@ side-length y (refused k) = refl
 
 -- ---- a pair that can be joined
 
-frame-length : (f : Format) (t u : Trace) (n : ℕ) → pairLength (sided f n t u) ≡ dataLength f (nth (t .frames ++ u .frames) n)
-frame-length f t u n = by (ltb n k) refl
-  where
-    k : ℕ
-    k = length (t .frames)
+module _ (f : Format) (t u : Trace) (n : ℕ) where
+  abbrev inJoin : Answer ℕ
+  inJoin = dataLength f (nth (t .frames ++ u .frames) n)
 
-    by : (w : Bool) → ltb n k ≡ w → pairLength (cond w (onSide first (frameData n f t)) (onSide second (frameData (n - k) f u))) ≡ dataLength f (nth (t .frames ++ u .frames) n)
-    by true e = side-length first (frameData n f t) ∙ length-is f t n ∙ ap (dataLength f) (sym (nth-first (t .frames) (u .frames) n (ltb-true n k e)))
-    by false e = side-length second (frameData (n - k) f u) ∙ length-is f u (n - k) ∙ ap (dataLength f) (sym (nth-second (t .frames) (u .frames) n (ltb-false n k e)))
+  abbrev count : ℕ
+  count = length (t .frames)
 
-joined-length : (s : Settings) (a b c : List ℕ) (f : Format) (t u : Trace) (n : ℕ) → Joined s a b c f t u → pairLength (pairPlace s a b n) ≡ placeLength (asked s c (frameData n))
-joined-length s a b c f t u n i =
-    ap pairLength (place-is s a b c f t u i n) ∙ frame-length f t u n ∙ sym (length-is f (join t u) n) ∙ ap placeLength (sym (asked-join s a b c f t u i n))
+  by-side : (w : Bool) → ltb n count ≡ w → pairLength (cond w (onSide first (frameData n f t)) (onSide second (frameData (n - count) f u))) ≡ inJoin
+  by-side true e =
+      side-length first (frameData n f t) ∙ length-is f t n ∙ ap (dataLength f) (sym (nth-first (t .frames) (u .frames) n (ltb-true n count e)))
+  by-side false e =
+      side-length second (frameData (n - count) f u) ∙ length-is f u (n - count)
+      ∙ ap (dataLength f) (sym (nth-second (t .frames) (u .frames) n (ltb-false n count e)))
+
+  joined-length : (s : Settings) (a b c : List ℕ) → Joined s a b c f t u → pairLength (pairPlace s a b n) ≡ placeLength (asked s c (frameData n))
+  joined-length s a b c i =
+      ap pairLength (place-is s a b c f t u i n) ∙ by-side (ltb n count) refl ∙ sym (length-is f (join t u) n)
+      ∙ ap placeLength (sym (asked-join s a b c f t u i n))
 
 -- ---- every pair
 
@@ -67,5 +72,5 @@ pub pair-refuses-as-join : (s : Settings) (a b : List ℕ) (n : ℕ) → Bytes a
 pair-refuses-as-join s a b n ha hb = by (joinOf s a b) refl
   where
     by : (x : Answer (List ℕ)) → joinOf s a b ≡ x → pairLength (pairPlace s a b n) ≡ next x (λ c. placeLength (asked s c (frameData n)))
-    by (accepted c) e = let q = joined s a b c ha hb e in joined-length s a b c (q .0) (q .1) (q .2) n (q .3)
+    by (accepted c) e = let q = joined s a b c ha hb e in joined-length (q .0) (q .1) (q .2) n s a b c (q .3)
     by (refused k) e = ap pairLength (sym (place-refused s a b n k e))

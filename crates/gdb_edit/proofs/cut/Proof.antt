@@ -80,7 +80,8 @@ has-room-requires : tie.Need-has-room-requires
 has-room-requires c κs =
     let h = c .before .before in
     let a = (Begun h) .args in
-    (start-there (a .settings) (a .file .now) (file-bytes h) (said h) (was-read h), heads-there (a .settings) (a .file .now) (file-bytes h) (said h) (was-read h), few h)
+    let b = a .file .now in
+    (start-there (a .settings) b (file-bytes h) (said h) (was-read h), heads-there (a .settings) b (file-bytes h) (said h) (was-read h), few h)
 
 write-cut-requires : tie.Need-write-cut-requires
 write-cut-requires c κs =

@@ -34,6 +34,22 @@ met c =
 loop-holds : tie.Need-loop-holds Inv-loop μ-loop
 loop-holds c = (c .before .pre .0, c .before .pre .1, omega arith, refl)
 
+loop-again : tie.Need-loop-again Inv-loop μ-loop
+loop-again c =
+    let p = met (c .before .before .before) in
+    let l = c .before .before .before .before .before .before .loop in
+    let a = c .before .before .before .before .before .before .before .before .args in
+    let e = length-yes p (meaning (a .selection)) (sym (c .before .is-selected .ensures) ∙ c .if1 .taken) in
+    (p .inside, p .rest, omega (arith, p .past), omega (arith, e, l .inv .3))
+
+loop-again-2 : tie.Need-loop-again-2 Inv-loop μ-loop
+loop-again-2 c =
+    let p = met (c .before .before .before) in
+    let l = c .before .before .before .before .before .before .loop in
+    let a = c .before .before .before .before .before .before .before .before .args in
+    let e = ap length (kept-no p (meaning (a .selection)) (sym (c .before .is-selected .ensures) ∙ c .if1 .left)) in
+    (p .inside, p .rest, omega (arith, p .past), omega (arith, e, l .inv .3))
+
 returns : tie.Need-returns Inv-loop μ-loop
 returns c =
     let l = c .before .before .before .loop in
@@ -58,24 +74,8 @@ add-len c = let p = met (c .before .before .before) in omega (arith, p .past, p 
 loop-less : tie.Need-loop-less Inv-loop μ-loop
 loop-less c = let p = met (c .before .before .before) in omega (arith, p .past, p .inside)
 
-loop-again : tie.Need-loop-again Inv-loop μ-loop
-loop-again c =
-    let p = met (c .before .before .before) in
-    let l = c .before .before .before .before .before .before .loop in
-    let a = c .before .before .before .before .before .before .before .before .args in
-    let e = length-yes p (meaning (a .selection)) (sym (c .before .is-selected .ensures) ∙ c .if1 .taken) in
-    (p .inside, p .rest, omega (arith, p .past), omega (arith, e, l .inv .3))
-
 loop-less-2 : tie.Need-loop-less-2 Inv-loop μ-loop
 loop-less-2 c = let p = met (c .before .before .before) in omega (arith, p .past, p .inside)
-
-loop-again-2 : tie.Need-loop-again-2 Inv-loop μ-loop
-loop-again-2 c =
-    let p = met (c .before .before .before) in
-    let l = c .before .before .before .before .before .before .loop in
-    let a = c .before .before .before .before .before .before .before .before .args in
-    let e = ap length (kept-no p (meaning (a .selection)) (sym (c .before .is-selected .ensures) ∙ c .if1 .left)) in
-    (p .inside, p .rest, omega (arith, p .past), omega (arith, e, l .inv .3))
 
 pub cut-length-spec : {M : Type 1} → statement M
 cut-length-spec =

@@ -68,6 +68,14 @@ loop-again c =
       append-assoc (l .inv .2) f _ ∙ ap (λ x. l .inv .2 ++ x) (sym (kept-yes p (meaning (a .selection)) y)) ∙ l .inv .5,
     )
 
+loop-again-2 : tie.Need-loop-again-2 Inv-loop μ-loop
+loop-again-2 c =
+    let h = c .before .before .before .before .before .before in
+    let p = met (c .before .before .before) in
+    let l = h .loop in
+    let e = kept-no p (meaning (Begun h .args .selection)) (sym (c .before .is-selected .ensures) ∙ c .if1 .left) in
+    (p .inside, p .rest, l .inv .2, l .inv .3, l .inv .4, ap (λ x. l .inv .2 ++ x) (sym e) ∙ l .inv .5)
+
 -- what is written and what is to come is the whole, and the output is as long as it was
 room : (h : tie.At-loop Inv-loop μ-loop)
     → (h .loop .len + length (kept (Begun h .args .format) (meaning (Begun h .args .selection)) (drop (h .loop .at) (Begun h .args .file .now)))
@@ -83,15 +91,6 @@ room h =
     let t = lengths (l .inv .2) (k .last .1 .0) (l .out) (l .len) (l .inv .3) (l .inv .4) _ w _ (l .inv .5) in
     let f = first-long w (a .out .now) (k .last .1 .0) (k .result) (k .ensures .0) (k .ensures .1) (omega (arith, n, q .pre .3)) in
     (omega (arith, t, n), out-long (l .inv .2) (k .last .1 .0) (l .out) (l .len) (l .inv .3) (l .inv .4) (omega (arith, t, n, f, q .pre .3)) ∙ f)
-
-slice-aggregate-copy : tie.Need-slice-aggregate-copy Inv-loop μ-loop
-slice-aggregate-copy c = sym (length-take-le (c .before .before .before .args .start) (c .before .before .before .args .file .now) (c .before .before .before .pre .0))
-
-copy-requires : tie.Need-copy-requires Inv-loop μ-loop
-copy-requires c κs = omega (arith, length-take-le (c .before .before .before .before .args .start) (c .before .before .before .before .args .file .now) (c .before .before .before .before .pre .0), c .before .before .before .before .pre .3)
-
-same-length : tie.Need-same-length Inv-loop μ-loop
-same-length c = (room (c .before .before .before)) .1
 
 returns : tie.Need-returns Inv-loop μ-loop
 returns c =
@@ -111,14 +110,23 @@ returns c =
           (first-rest w (a .out .now) (k .last .1 .0) (k .result) (k .ensures .0) (k .ensures .1) (l .len) (omega (arith, n, t)) ∙ ap (λ m. drop m (a .out .now)) t),
     )
 
-same-length-2 : tie.Need-same-length-2 Inv-loop μ-loop
-same-length-2 c = (room (c .before .before .before)) .1
-
 returns-2 : tie.Need-returns-2 Inv-loop μ-loop
 returns-2 c =
     let h = c .before .before .before in
     let a = (Begun h) .args in
     heads-never (a .format) (a .file .now) (h .loop .at) (c .enum-told2 .given .0 .0) (h .loop .inv .1) (ap frameMeaning (sym (c .enum-told2 .given .1)) ∙ c .before .before .head-at .ensures)
+
+slice-aggregate-copy : tie.Need-slice-aggregate-copy Inv-loop μ-loop
+slice-aggregate-copy c = let q : tie.Start Inv-loop μ-loop = search in sym (length-take-le (q .args .start) (q .args .file .now) (q .pre .0))
+
+copy-requires : tie.Need-copy-requires Inv-loop μ-loop
+copy-requires c κs = let q : tie.Start Inv-loop μ-loop = search in omega (arith, length-take-le (q .args .start) (q .args .file .now) (q .pre .0), q .pre .3)
+
+same-length : tie.Need-same-length Inv-loop μ-loop
+same-length c = (room (c .before .before .before)) .1
+
+same-length-2 : tie.Need-same-length-2 Inv-loop μ-loop
+same-length-2 c = (room (c .before .before .before)) .1
 
 is-selected-requires : tie.Need-is-selected-requires Inv-loop μ-loop
 is-selected-requires c κs = (Begun (c .before .before .before .before)) .pre .2
@@ -162,14 +170,6 @@ loop-less c = let p = met (c .before .before .before .before .before .before .be
 
 loop-less-2 : tie.Need-loop-less-2 Inv-loop μ-loop
 loop-less-2 c = let p = met (c .before .before .before) in omega (arith, p .past, p .inside)
-
-loop-again-2 : tie.Need-loop-again-2 Inv-loop μ-loop
-loop-again-2 c =
-    let h = c .before .before .before .before .before .before in
-    let p = met (c .before .before .before) in
-    let l = h .loop in
-    let e = kept-no p (meaning (Begun h .args .selection)) (sym (c .before .is-selected .ensures) ∙ c .if1 .left) in
-    (p .inside, p .rest, l .inv .2, l .inv .3, l .inv .4, ap (λ x. l .inv .2 ++ x) (sym e) ∙ l .inv .5)
 
 pub write-cut-spec : {M : Type 1} → statement M
 write-cut-spec =
