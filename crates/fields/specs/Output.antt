@@ -10,22 +10,25 @@ use borrow.Author.Tests.{le-leb, lt-leb}
 use Rattle.refusals.specs.Refusal.{noRoom}
 use Rattle.fields.specs.Answer.{Answer, accepted, refused, next}
 
--- 11 where the result is longer than the output; it comes last
-abbrev pub fitting : {A : Type 0} → List A → Answer (List A) → Answer (List A)
-fitting out (accepted c) = cond (leb (length c) (length out)) (accepted c) (refused noRoom)
-fitting out (refused n) = refused n
+-- 11 where the result is longer than the room for it; it comes last
+abbrev pub fitting : {A : Type 0} → ℕ → Answer (List A) → Answer (List A)
+fitting room (accepted c) = cond (leb (length c) room) (accepted c) (refused noRoom)
+fitting room (refused n) = refused n
 
 -- the result at the front, and the output beyond it unchanged; all of it unchanged on a refusal
 abbrev pub over : {A : Type 0} → List A → Answer (List A) → List A
 over out (accepted c) = c ++ drop (length c) out
 over out (refused n) = out
 
+abbrev pub counted : {A : Type 0} → Answer (List A) → Answer ℕ
+counted x = next x (λ c. accepted (length c))
+
 -- the answer of a call that gives x: the length, or the refusal; and what the lent output holds at exit
 abbrev pub answer : {A : Type 0} → Answer (List A) → List A → Answer ℕ
-answer x out = next (fitting out x) (λ c. accepted (length c))
+answer x out = counted (fitting (length out) x)
 
 abbrev pub exit : {A : Type 0} → Answer (List A) → List A → List A
-exit x out = over out (fitting out x)
+exit x out = over out (fitting (length out) x)
 
 -- a call that gives x and is lent `out` answers r and leaves l there
 pub record Lent {A : Type 0} (x : Answer (List A)) (out : List A) (r : Answer ℕ) (l : List A) : Type 0 where

@@ -71,12 +71,12 @@ module _ {P : ℕ → Type 0} where
       by false i e = leb-false n limit i
 
   -- 11 where the result is longer than the output
-  refuses-fitting : {A : Type 0} {x : Answer (List A)} (out : List A) → P noRoom → Refuses P x → Refuses P (fitting out x)
-  refuses-fitting {x = accepted c} out g h = refuses-cond (leb (length c) (length out)) refuses-never (refuses-with g)
-  refuses-fitting {x = refused k} out g h = refuses-with (h .only k refl)
+  refuses-fitting : {A : Type 0} {x : Answer (List A)} (room : ℕ) → P noRoom → Refuses P x → Refuses P (fitting room x)
+  refuses-fitting {x = accepted c} room g h = refuses-cond (leb (length c) room) refuses-never (refuses-with g)
+  refuses-fitting {x = refused k} room g h = refuses-with (h .only k refl)
 
   pub refuses-answer : {A : Type 0} {x : Answer (List A)} (out : List A) → P noRoom → Refuses P x → Refuses P (answer x out)
-  refuses-answer out g h = refuses-next (refuses-fitting out g h) (λ c. refuses-never)
+  refuses-answer out g h = refuses-next (refuses-fitting (length out) g h) (λ c. refuses-never)
 
   -- ---- readers
 

@@ -1,5 +1,5 @@
 -- What a loop that writes the records of a walk into a list keeps: nothing of the machine, nothing of memory.
---     starts    at the start;    goes-on    after one more record;    ends    at the end the list holds what `Tabled` says
+--     starts    at the start;    goes-on    after one more record;    ends    at the end the list holds what `Lent` says
 -- Assumes nothing.
 use mathlib.Core.Path.{_≡_, refl, sym, _∙_, ap}
 use mathlib.Core.List.{List, _∷_, _++_, append-nil}
@@ -9,13 +9,14 @@ use native.Mathlib.Numerals.{add-one}
 use lib.ListN.{length, drop, take, set, length-set, take-append-drop}
 use lib.Seq.{take-suc-set, drop-set-lt, drop-drop, append-snoc}
 use Rattle.fields.specs.Answer.{Answer, accepted, refused}
+use Rattle.fields.specs.Output.{fitting, over, Lent}
 use Rattle.gdb_format.specs.declared.Format.{Format}
 use Rattle.gdb_format.specs.declared.Settings.{Settings}
 use Rattle.gdb_frames.specs.Questions.{asked}
 use Rattle.gdb_table.specs.declared.FrameRecord.{FrameRecord}
 use Rattle.gdb_table.specs.declared.Step.{Step}
 use Rattle.gdb_table.specs.declared.Plan.{Plan}
-use Rattle.gdb_table.specs.Records.{frameTable, written, Tabled}
+use Rattle.gdb_table.specs.Records.{frameTable, tableAnswer}
 use Rattle.gdb_table.specs.Walk.{stepFrom, recordsFrom, toWrite, Planned}
 
 -- of the plan p: i records are written, the walk stands at `at`, and the list, which was ys, is ws
@@ -30,9 +31,9 @@ unfolding recordsFrom
 length-records f b zero at = refl
 length-records f b (suc n) at = ap suc (length-records f b n (stepFrom f b at .next))
 
-written-is : (ys : List FrameRecord) (x : Answer (List FrameRecord)) → toWrite x ++ drop (length (toWrite x)) ys ≡ written ys x
-written-is ys (accepted rs) = refl
-written-is ys (refused n) = refl
+over-is : (ys : List FrameRecord) (x : Answer (List FrameRecord)) → toWrite x ++ drop (length (toWrite x)) ys ≡ over ys x
+over-is ys (accepted rs) = refl
+over-is ys (refused n) = refl
 
 module _ (s : Settings) (b : List ℕ) (p : Plan) (ys : List FrameRecord) (planned : Planned s b (length ys) p) where
   pub starts : Filling b p ys 0 (p .start) ys
@@ -65,21 +66,21 @@ module _ (s : Settings) (b : List ℕ) (p : Plan) (ys : List FrameRecord) (plann
       rest = drop-set-lt (i + 1) ws i (r .found) (omega arith) ∙ sym (drop-drop 1 i ws) ∙ ap (drop 1) (f .rest) ∙ drop-drop 1 i ys;
     }
 
-    all-taken : p .writes ≤ i → take i ws ≡ toWrite (asked s b (frameTable (length ys)))
+    all-taken : p .writes ≤ i → take i ws ≡ toWrite (fitting (length ys) (asked s b frameTable))
     unfolding recordsFrom
     all-taken over =
         let e : 0 ≡ p .writes - i = omega (arith, f .below) in
         sym (append-nil (take i ws)) ∙ ap (λ n. take i ws ++ recordsFrom (p .format) b n at) e ∙ f .done ∙ planned .finds
 
     -- as many as there are to be written
-    counted : p .writes ≤ i → i ≡ length (toWrite (asked s b (frameTable (length ys))))
+    counted : p .writes ≤ i → i ≡ length (toWrite (fitting (length ys) (asked s b frameTable)))
     counted over = omega (arith, f .below, ap length (planned .finds), length-records (p .format) b (p .writes) (p .start))
 
-    pub ends : p .writes ≤ i → Tabled s b ys ws (p .answer)
+    pub ends : p .writes ≤ i → Lent (asked s b frameTable) ys (tableAnswer (p .answer)) ws
     ends over = record {
       answers = planned .answers;
-      holds =
+      leaves =
           sym (take-append-drop i ws) ∙ ap (λ l. l ++ drop i ws) (all-taken over)
-          ∙ ap (λ l. toWrite (asked s b (frameTable (length ys))) ++ l) (f .rest ∙ ap (λ k. drop k ys) (counted over))
-          ∙ written-is ys (asked s b (frameTable (length ys)));
+          ∙ ap (λ l. toWrite (fitting (length ys) (asked s b frameTable)) ++ l) (f .rest ∙ ap (λ k. drop k ys) (counted over))
+          ∙ over-is ys (fitting (length ys) (asked s b frameTable));
     }

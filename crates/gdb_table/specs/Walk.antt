@@ -6,6 +6,7 @@ use Prim.Native.Nat.{ℕ, zero, suc, _≤_}
 use mathlib.Core.List.{List, [], _∷_}
 use Rattle.fields.specs.Answer.{Answer, accepted, refused}
 use Rattle.fields.specs.Reader.{stepAt}
+use Rattle.fields.specs.Output.{fitting, counted}
 use Rattle.fields.specs.declared.Order.the-variants.{Little}
 use Rattle.gdb_format.specs.Decode.{frameHead}
 use Rattle.gdb_format.specs.declared.Format.{Format}
@@ -17,7 +18,7 @@ use Rattle.gdb_table.specs.declared.Step.{Step}
 use Rattle.gdb_table.specs.declared.Plan.{Plan}
 use Rattle.gdb_table.specs.declared.TableAnswer.{TableAnswer}
 use Rattle.gdb_table.specs.declared.TableAnswer.the-variants as answer
-use Rattle.gdb_table.specs.Records.{recordOf, tableCount, frameTable, tableAnswer}
+use Rattle.gdb_table.specs.Records.{recordOf, frameTable, tableAnswer}
 
 -- ---- one step
 
@@ -60,6 +61,6 @@ noPlan n = planOf (record { order = Little }) 0 0 (answer.Refused n)
 
 -- a plan for so many lent records: its answer is the question's, and its walk finds the records to be written
 pub record Planned (s : Settings) (b : List ℕ) (room : ℕ) (p : Plan) : Type 0 where
-  pub answers : tableAnswer (p .answer) ≡ asked s b (tableCount room)
-  pub finds : recordsFrom (p .format) b (p .writes) (p .start) ≡ toWrite (asked s b (frameTable room))
+  pub answers : tableAnswer (p .answer) ≡ counted (fitting room (asked s b frameTable))
+  pub finds : recordsFrom (p .format) b (p .writes) (p .start) ≡ toWrite (fitting room (asked s b frameTable))
   pub fits : p .writes ≤ room

@@ -12,9 +12,6 @@ use Rattle.gdb_format.specs.declared.Settings.{Settings}
 use Rattle.gdb_format.specs.declared.LineKind.{LineKind}
 use Rattle.gdb_format.specs.declared.LineKind.the-variants as kind
 use Rattle.gdb_read.specs.Steps.{Carried, registers, memory, variable}
-use Rattle.gdb_frames.specs.Questions.{asked}
-use Rattle.gdb_table.specs.Records.{tableCount, frameTable, written}
-use Rattle.gdb_table.specs.declared.FrameRecord.{FrameRecord}
 use Rattle.fields.specs.Output.{answer, exit}
 use Rattle.gdb_edit.specs.declared.Selection as edit
 use Rattle.gdb_pair.specs.Pair.{Side, first, second}
@@ -83,14 +80,7 @@ selectionIn s = record { ranges = s .ranges; count = s .count; keep = not (eqb (
 unfoldable pub flatSelection : edit.Selection → Selection
 flatSelection s = record { ranges = s .ranges; count = s .count; keep = cond (s .keep) 1 0 }
 
--- ---- a call with a lent output: its answer, and what the output holds then
-
--- bytes
-pub record Ends (x : Answer (List ℕ)) (out : List ℕ) (r : Length) (l : List ℕ) : Type 0 where
-  pub answers : r ≡ flatLength (answer x out)
+-- a call that gives x and is lent `out` answers r, which `flat` makes, and leaves l there
+pub record FlatLent {A R : Type 0} (flat : Answer ℕ → R) (x : Answer (List A)) (out : List A) (r : R) (l : List A) : Type 0 where
+  pub answers : r ≡ flat (answer x out)
   pub leaves : l ≡ exit x out
-
--- the frame table
-pub record Tabled (s : Settings) (b : List ℕ) (old new : List FrameRecord) (r : Count) : Type 0 where
-  pub answers : r ≡ flatCount (asked s b (tableCount (length old)))
-  pub holds : new ≡ written old (asked s b (frameTable (length old)))

@@ -16,7 +16,8 @@ use Rattle.gdb_frames.specs.Questions.{asked, frameCount, frameData, lineAt}
 use Rattle.gdb_frames.specs.Numbers.{questionNumbers, frame-count-numbers, frame-place-numbers, line-place-numbers}
 use Rattle.gdb_blocks.specs.Search.{blockAt, registersAt, memoryAt, variableAt}
 use Rattle.gdb_blocks.specs.Numbers.{block-record-numbers, registers-place-numbers, memory-place-numbers, variable-numbers}
-use Rattle.gdb_table.specs.Records.{tableCount}
+use Rattle.gdb_table.specs.Records.{frameTable}
+use Rattle.gdb_table.specs.declared.FrameRecord.{FrameRecord}
 use Rattle.gdb_table.specs.Numbers.{tableNumbers, table-numbers}
 use Rattle.gdb_edit.specs.Cut.{cutOf, joinOf}
 use Rattle.gdb_edit.specs.Numbers.{cutNumbers, cut-numbers, joinNumbers, join-numbers}
@@ -49,9 +50,9 @@ module _ (s : Settings) (b : List ℕ) where
   unfolding flatCount
   frame-count-told = told flatCount (λ r. r .refusal) (λ k. refl) fileNumbers (search lit≤) (frame-count-numbers s b)
 
-  pub frame-table-told : (room : ℕ) → Told flatCount (λ r. r .refusal) (asked s b (tableCount room))
+  pub frame-table-told : (out : List FrameRecord) → Told flatCount (λ r. r .refusal) (answer (asked s b frameTable) out)
   unfolding flatCount
-  frame-table-told room = told flatCount (λ r. r .refusal) (λ k. refl) tableNumbers (search lit≤) (table-numbers s b room)
+  frame-table-told out = told flatCount (λ r. r .refusal) (λ k. refl) tableNumbers (search lit≤) (table-numbers s b out)
 
   pub line-place-told : (j : ℕ) → Told flatLine (λ r. r .refusal) (asked s b (lineAt j))
   unfolding flatLine

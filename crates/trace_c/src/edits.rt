@@ -4,7 +4,7 @@ ghost use Rattle.gdb_edit.specs.Cut.{cutOf, joinOf};
 ghost use Rattle.gdb_edit.specs.Output.{editAnswer};
 ghost use Rattle.gdb_edit.specs.Selection.{against};
 ghost use Rattle.gdb_pair.specs.Pair.{pairPlace, pairSaid, pairVariable};
-ghost use Rattle.trace_c.specs.Flat.{flatValue, flatLength, flatPair, selectionIn, flatSelection, Ends};
+ghost use Rattle.trace_c.specs.Flat.{flatValue, flatLength, flatPair, selectionIn, flatSelection, FlatLent};
 use super::questions::Value;
 use super::questions::flat_value;
 use gdb_edit::EditAnswer;
@@ -73,7 +73,7 @@ pub extern "C" fn tfk_cut(
     selection: Selection,
     out: &mut [u8],
 ) -> Length
-    ensures { λ r. ⌜ Ends (cutOf settings (selectionIn selection) (now (file .entry))) (now (out .entry)) r (now (out .exit)) ⌝ }
+    ensures { λ r. ⌜ FlatLent flatLength (cutOf settings (selectionIn selection) (now (file .entry))) (now (out .entry)) r (now (out .exit)) ⌝ }
 {
     flat_length(gdb_edit::cut(settings, file, selection_in(selection), out))
 }
@@ -85,7 +85,7 @@ pub extern "C" fn tfk_join(
     second: &[u8],
     out: &mut [u8],
 ) -> Length
-    ensures { λ r. ⌜ Ends (joinOf settings (now (first .entry)) (now (second .entry))) (now (out .entry)) r (now (out .exit)) ⌝ }
+    ensures { λ r. ⌜ FlatLent flatLength (joinOf settings (now (first .entry)) (now (second .entry))) (now (out .entry)) r (now (out .exit)) ⌝ }
 {
     flat_length(gdb_edit::join(settings, first, second, out))
 }

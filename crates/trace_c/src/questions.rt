@@ -3,8 +3,8 @@ ghost use mathlib.Core.Path.{_≡_};
 ghost use Rattle.gdb_read.specs.Steps.{kindMeaning};
 ghost use Rattle.gdb_frames.specs.Questions.{asked, frameCount, frameData, lineAt, countAnswer, placeAnswer, lineAnswer};
 ghost use Rattle.gdb_blocks.specs.Search.{blockAt, registersAt, memoryAt, variableAt, blockAnswer, valueAnswer};
-ghost use Rattle.gdb_table.specs.Records.{tableAnswer};
-ghost use Rattle.trace_c.specs.Flat.{flatCount, flatPlace, kindNumber, flatLine, shownBlock, flatBlock, flatValue, Tabled};
+ghost use Rattle.gdb_table.specs.Records.{frameTable, tableAnswer};
+ghost use Rattle.trace_c.specs.Flat.{flatCount, flatPlace, kindNumber, flatLine, shownBlock, flatBlock, flatValue, FlatLent};
 use gdb_blocks::BlockAnswer;
 use gdb_blocks::ValueAnswer;
 use gdb_format::LineKind;
@@ -51,7 +51,7 @@ fn flat_table(answer: TableAnswer) -> Count
 // No branch here: a function over a lent list of structs is proved by a walk by hand.
 #[no_mangle]
 pub extern "C" fn tfk_frame_table(settings: Settings, file: &[u8], out: &mut [FrameRecord]) -> Count
-    ensures { λ r. ⌜ Tabled settings (now (file .entry)) (now (out .entry)) (now (out .exit)) r ⌝ }
+    ensures { λ r. ⌜ FlatLent flatCount (asked settings (now (file .entry)) frameTable) (now (out .entry)) r (now (out .exit)) ⌝ }
 {
     flat_table(gdb_table::table(settings, file, out))
 }

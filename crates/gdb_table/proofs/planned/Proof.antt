@@ -3,7 +3,8 @@ use mathlib.Core.Path.{sym, ap, subst, _∙_}
 use Rattle.fields.specs.Number.{Bytes, bytes-all}
 use Rattle.gdb_read.specs.Steps.{readingMeaning, summarySaid}
 use Rattle.gdb_frames.specs.File.{asked-refused}
-use Rattle.gdb_table.specs.Records.{tableCount}
+use Rattle.fields.specs.Output.{fitting, counted}
+use Rattle.gdb_table.specs.Records.{frameTable}
 use Rattle.gdb_table.specs.Walk.{Planned, noPlan}
 use Rattle.gdb_table.specs.Planning.{plan-refused, plan-short, plan-all}
 use borrow.Author.Needs.{needs}
@@ -29,7 +30,7 @@ returns-2 c =
     let p = noPlan (g .0 .0) in
     subst (Planned (a .settings) (a .file .now) (a .room)) (sym (c .refusal .ensures))
     (plan-refused (a .settings) (a .file .now) (a .room) (p .format) (p .start) (g .0 .0)
-    (asked-refused (a .settings) (a .file .now) (tableCount (a .room)) (g .0 .0) (ap readingMeaning (sym (g .1)) ∙ c .before .before .before .before .read .ensures)))
+    (ap (λ x. counted (fitting (a .room) x)) (asked-refused (a .settings) (a .file .now) frameTable (g .0 .0) (ap readingMeaning (sym (g .1)) ∙ c .before .before .before .before .read .ensures))))
 
 returns-3 : tie.Need-returns-3
 returns-3 c =

@@ -43,7 +43,9 @@ use denote.Signature.{plain, shrSliceOf}
 use Rattle.gdb_format.specs.declared.Settings.{Settings}
 use Rattle.gdb_format.proofs.Settings as Se
 use Rattle.gdb_format.proofs.Settings.Laws as Se′
-use Rattle.gdb_table.specs.Records.{tableAnswer, Tabled as TableSays}
+use Rattle.fields.specs.Output.{Lent}
+use Rattle.gdb_frames.specs.Questions.{asked}
+use Rattle.gdb_table.specs.Records.{frameTable, tableAnswer}
 use Rattle.gdb_table.specs.declared.FrameRecord.{FrameRecord}
 use Rattle.gdb_table.specs.declared.TableAnswer.{TableAnswer}
 use Rattle.gdb_table.proofs.FrameRecord as T
@@ -53,7 +55,7 @@ use Rattle.gdb_table.proofs.table as table
 use Rattle.gdb_table.proofs.table.Symbol as table-def
 use Rattle.gdb_table.proofs.table.Symbol.{name as #gdb-table·table}
 use Rattle.gdb_table.proofs.table.Met as table-thm
-use Rattle.trace_c.specs.Flat.{flatCount, Tabled}
+use Rattle.trace_c.specs.Flat.{flatCount, FlatLent}
 use Rattle.trace_c.specs.declared.questions.Count.{Count}
 use Rattle.trace_c.proofs.questions.Count as Co
 use Rattle.trace_c.proofs.questions.Count.Laws as Co′
@@ -127,7 +129,7 @@ module _ {M : Type 1} (𝓤 : URA M) (H : Heap 𝓤) (A : Atoms 𝓤) (W : Given
   abbrev Owned : Item 𝓤
   Owned = ‵ (owns (Se.the-row ∷ ShrSlice (named 0) κ u8 ∷ MutSlice (named 1) κ′ R ∷ []) a vals)
 
-  exits : (k : Count) (zs : List FrameRecord) → Is Co.the-row k (cv k ∷ []) → length zs ≡ length ys → Tabled g (x .now) ys zs k
+  exits : (k : Count) (zs : List FrameRecord) → Is Co.the-row k (cv k ∷ []) → length zs ≡ length ys → FlatLent flatCount (asked g (x .now) frameTable) ys k zs
       → ent 𝓤 (⋆ 𝓤 H A (Tokens ∷ ‵ (finally R γ zs) ∷ [])) (Post (cv k))
   exits k zs is l e =
       qed W (Tokens ∷ ‵ (finally R γ zs) ∷ []) ∵
@@ -164,8 +166,8 @@ module _ {M : Type 1} (𝓤 : URA M) (H : Heap 𝓤) (A : Atoms 𝓤) (W : Given
         calls-at ! fm (TableC 𝓤 H A mem run) known-table to-table
         (and-then ! (load ! (from ! (stop !)) (look ! 11 refl)) (and-then ! (load ! (from ! (stop !)) (look ! 9 refl)) (and-then ! (load ! (from ! (stop !)) (look ! 1 refl)) (no-more !)))) (λ w.
         use1 W (later (some (λ (r : TableAnswer). (Tokens ⊛ ‵ (An.the-row .own r (w ∷ []))) ⊛ raw (ensured 𝓤 H A table.ended (table.clauses 𝓤 H A mem run) (κ, (κ′, tt)) a tt r)))) (id⊢ 𝓤 _) $ await ! tt $ pick ! (λ r.
-        split ! $ move ! (1 ∷ []) $ use1 W (some (λ (zs : Unit {0} × (Unit {0} × (List FrameRecord × Unit {0}))). ‵ (lasts table.ended (κ, (κ′, tt)) a zs) ⊛ raw (fact 𝓤 (TableSays g (x .now) ys (zs .1 .1 .0) r)))) (id⊢ 𝓤 _) $ pick ! (λ zs.
-        split ! $ move ! (1 ∷ []) $ heard ! (TableSays g (x .now) ys (zs .1 .1 .0) r) (λ e. fsplit ! $ drop ! $ fsplit ! $ drop ! $ fsplit ! $ fsplit ! $ move ! (1 ∷ []) $ feqL ! (λ l.
+        split ! $ move ! (1 ∷ []) $ use1 W (some (λ (zs : Unit {0} × (Unit {0} × (List FrameRecord × Unit {0}))). ‵ (lasts table.ended (κ, (κ′, tt)) a zs) ⊛ raw (fact 𝓤 (Lent (asked g (x .now) frameTable) ys (tableAnswer r) (zs .1 .1 .0))))) (id⊢ 𝓤 _) $ pick ! (λ zs.
+        split ! $ move ! (1 ∷ []) $ heard ! (Lent (asked g (x .now) frameTable) ys (tableAnswer r) (zs .1 .1 .0)) (λ e. fsplit ! $ drop ! $ fsplit ! $ drop ! $ fsplit ! $ fsplit ! $ move ! (1 ∷ []) $ feqL ! (λ l.
         -- [the last list; true; the tokens and the answer; _6; …]
         move ! (2 ∷ []) $ split ! $ move ! (1 ∷ []) $ facts ! An.the-row (Is An.the-row) (shows 𝓤 H A An.the-row) r (w ∷ []) (λ is.
         land ! (from ! (stop !)) (init ! 7 refl (EL.lawful An.the-type An′.the-laws 𝓤 H A W tt .typed r _ is .0)) $
@@ -181,7 +183,7 @@ module _ {M : Type 1} (𝓤 : URA M) (H : Heap 𝓤) (A : Atoms 𝓤) (W : Given
         rewrite ! 15 (λ (u : Val). ‵ (fat fullShare Co′.mir l₀ 0 u)) (ap only (LL.tells Co.the-type Co′.the-laws k _ is′)) refl $
         returns ! (look ! 15 refl) $ forget ! 3 refl $ forget ! 5 refl $ forget ! 7 refl $ forget ! 9 refl $ forget ! 11 refl $ forget ! 13 refl $ forget ! 15 refl $
         move ! (15 ∷ 16 ∷ []) $ free1 ! $ move ! (13 ∷ 14 ∷ []) $ free1 ! $ move ! (11 ∷ 12 ∷ []) $ free1 ! $ move ! (9 ∷ 10 ∷ []) $ free1 ! $ move ! (7 ∷ 8 ∷ []) $ free1 ! $ move ! (5 ∷ 6 ∷ []) $ free1 ! $ move ! (3 ∷ 4 ∷ []) $ free1 ! $ free0 ! $
-        keep ! (1 ∷ 2 ∷ []) $ by ! (exits k (zs .1 .1 .0) (subst (Is Co.the-row k) (LL.tells Co.the-type Co′.the-laws k _ is′) is′) l (record { answers = ek ∙ ap flatCount (e .answers); holds = e .holds })))))))))))))))))))
+        keep ! (1 ∷ 2 ∷ []) $ by ! (exits k (zs .1 .1 .0) (subst (Is Co.the-row k) (LL.tells Co.the-type Co′.the-laws k _ is′) is′) l (record { answers = ek ∙ ap flatCount (e .answers); leaves = e .leaves })))))))))))))))))))
 
 module _ {M : Type 1} (𝓤 : URA M) (H : Heap 𝓤) (A : Atoms 𝓤) (W : Given 𝓤 H A) (mem : Memory → SProp 𝓤) (run : Routine → Fun 𝓤) (𝓣 : Tables 𝓤 H)
     (known-table : Triple 𝓤 (𝓣 .C #gdb-table·table) (TableC 𝓤 H A mem run)) (known-flat : Triple 𝓤 (𝓣 .C #trace-c·questions·flat-table) (FlatC 𝓤 H A mem run)) where
