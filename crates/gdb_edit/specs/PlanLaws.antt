@@ -30,7 +30,7 @@ written x out c e h = rw (e, le-leb (length c) (length out) (h c e)) (tt, take-a
 
 -- a call that is not refused returns the length of what it leaves
 answers-length : (x : Answer (List ℕ)) (out : List ℕ) → IsWritten (answer x out) → answer x out ≡ accepted (length (upTo (answer x out) (exit x out)))
-answers-length x out = by (fitting out x)
+answers-length x out = by (fitting (length out) x)
   where
     by : (y : Answer (List ℕ)) → let r = next y (λ c. accepted (length c)) in IsWritten r → r ≡ accepted (length (upTo r (over out y)))
     by (accepted c) w = ap (λ l. accepted (length l)) (sym (take-at c (drop (length c) out) (length c) refl))
