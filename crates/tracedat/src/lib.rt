@@ -2,7 +2,6 @@
 mod ranges;
 
 ghost use mathlib.Core.Path.{_≡_};
-ghost use Rattle.dat_format.specs.Decode.{decode};
 ghost use Rattle.tracedat.specs.Questions.{summaryAnswer, summed, rangeAnswer, cpuRange};
 use dat_read::Walked;
 use dat_read::summary::EndingKind;

@@ -26,7 +26,8 @@ file c = c .before .before .before .args .file .now
 all-bytes : (c : tie.After-walk) → Bytes (file c)
 all-bytes c = bytes-all (file c) (λ i. omega (arith, c .before .before .shared-slice-known .given i))
 
-walked : (c : tie.After-summary) → let s = file (to-walk c) in accepted (c .summary .given .0 .0, c .summary .given .0 .1 .0) ≡ seenAt (summarySeen (length s)) header s 0
+walked : (c : tie.After-summary) → let s = file (to-walk c) in
+    accepted (c .summary .given .0 .0, c .summary .given .0 .1 .0) ≡ seenAt (summarySeen (length s)) header s 0
 walked c = ap walkMeaning (sym (c .summary .given .1)) ∙ to-walk c .walk .ensures
 
 -- ---- where the ranges are judged
@@ -54,13 +55,16 @@ returns-3 : tie.Need-returns-3
 returns-3 c = accept-text _ (all-bytes (search)) (omega arith) _ _ (walked (search)) (c .enum-told .given .1)
 
 returns-4 : tie.Need-returns-4
-returns-4 c = bad-range _ (all-bytes (search)) (omega arith) _ _ (walked (search)) (search) (sym (c .enum-told3 .given .1) ∙ c .before .before .judge .ensures)
+returns-4 c =
+    bad-range _ (all-bytes (search)) (omega arith) _ _ (walked (search)) (search) (sym (c .enum-told3 .given .1) ∙ c .before .before .judge .ensures)
 
 returns-5 : tie.Need-returns-5
-returns-5 c = overlap _ (all-bytes (search)) (omega arith) _ _ (walked (search)) (search) (sym (c .enum-told4 .given .1) ∙ c .before .before .judge .ensures)
+returns-5 c =
+    overlap _ (all-bytes (search)) (omega arith) _ _ (walked (search)) (search) (sym (c .enum-told4 .given .1) ∙ c .before .before .judge .ensures)
 
 returns-6 : tie.Need-returns-6
-returns-6 c = accept-entries _ (all-bytes (search)) (omega arith) _ _ (walked (search)) (search) (sym (c .enum-told5 .given .1) ∙ c .before .before .judge .ensures)
+returns-6 c =
+    accept-entries _ (all-bytes (search)) (omega arith) _ _ (walked (search)) (search) (sym (c .enum-told5 .given .1) ∙ c .before .before .judge .ensures)
 
 pub summary-spec : {M : Type 1} → statement M
 summary-spec =
