@@ -4,8 +4,8 @@ use crate::file::File;
 use crate::show;
 use crate::table;
 use crate::table::Number;
-use gdb_edit::EditAnswer;
-use gdb_edit::Selection;
+use gdb_cut::EditAnswer;
+use gdb_cut::Selection;
 use gdb_format::Settings;
 
 // What the calls are given, and the last result.
@@ -39,9 +39,9 @@ fn called(case: Case, is_cut: bool, room: usize, out: &mut [u8]) -> EditAnswer {
     if room <= out.len() {
         let lent = &mut out[..room];
         if is_cut {
-            return gdb_edit::cut(settings, a, case.selection, lent);
+            return gdb_cut::cut(settings, a, case.selection, lent);
         }
-        return gdb_edit::join(settings, a, b, lent);
+        return gdb_join::join(settings, a, b, lent);
     }
     EditAnswer::Refused(255)
 }
@@ -85,7 +85,7 @@ pub(crate) fn asked(case: Case, t: &[u8], n: Number) -> Case {
             if table::byte(t, 1) == b'r' {
                 now.order = (n.value % 256) as u8;
             } else {
-                now.selection = gdb_edit::opposite(case.selection);
+                now.selection = gdb_cut::opposite(case.selection);
                 show::selection(now.selection);
             }
         }

@@ -1,7 +1,7 @@
 // What the answers are printed as.
 use gdb_blocks::ValueAnswer;
-use gdb_edit::EditAnswer;
-use gdb_edit::Selection;
+use gdb_cut::EditAnswer;
+use gdb_cut::Selection;
 use gdb_pair::PairPlace;
 use libc::STDOUT_FILENO;
 

@@ -1,7 +1,7 @@
 // The table's lines: their numbers and parts.
 ghost use Prim.Native.Nat.{_≤_};
-use gdb_edit::Range;
-use gdb_edit::Selection;
+use gdb_cut::Range;
+use gdb_cut::Selection;
 
 // Byte k; 0 past the end.
 pub(crate) fn byte(t: &[u8], k: usize) -> u8 {

@@ -9,4 +9,5 @@ pub mod Exact
 pub mod At
 pub mod Got
 pub mod Output
+pub mod Copies
 pub mod Refuses

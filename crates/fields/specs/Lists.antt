@@ -20,6 +20,15 @@ abbrev pub Each : {A : Type 0} → (A → Type 0) → List A → Type 0
 Each P [] = Unit {0}
 Each P (x ∷ xs) = P x × Each P xs
 
+-- the bytes of two runs, one after the other
+pub flat-append : {A : Type 0} (f : A → List ℕ) (l m : List A) → flat f (l ++ m) ≡ flat f l ++ flat f m
+flat-append f [] m = refl
+flat-append f (x ∷ l) m = ap (λ r. f x ++ r) (flat-append f l m) ∙ sym (append-assoc (f x) (flat f l) (flat f m))
+
+pub each-append : {A : Type 0} (P : A → Type 0) (l m : List A) → Each P l → Each P m → Each P (l ++ m)
+each-append P [] m h k = k
+each-append P (x ∷ l) m h k = (h .0, each-append P l m (h .1) k)
+
 -- from a contradiction anything follows
 pub clash : {X : Type 0} → _≡_ {A = ℕ} 0 1 → X
 clash e = absurd (omega arith)

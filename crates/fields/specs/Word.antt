@@ -1,4 +1,4 @@
--- A word at a list's front.
+-- A word at a list's front, and lists of the same bytes.
 -- Assumes nothing.
 use mathlib.Core.Path.{_≡_, refl, sym, ap, ap₂}
 use mathlib.Core.Bool.{Bool, true, false, _&&_}
@@ -56,3 +56,23 @@ module _ (w l : List ℕ) (k : ℕ) where
 
   pub starts-differ : k < length w → k < length l → (getD l k 0 ≡ getD w k 0 → ⊥) → starts (drop k w) (drop k l) ≡ false
   starts-differ h j e = rw (drop-one w k h, drop-one l k j, ne-eqb (getD w k 0) (getD l k 0) (λ q. e (sym q)))
+
+-- ---- the same bytes
+
+abbrev pub sameBytes : List ℕ → List ℕ → Bool
+sameBytes [] [] = true
+sameBytes [] (y ∷ ys) = false
+sameBytes (x ∷ xs) [] = false
+sameBytes (x ∷ xs) (y ∷ ys) = eqb x y && sameBytes xs ys
+
+pub same-bytes : (a b : List ℕ) → sameBytes a b ≡ true → a ≡ b
+same-bytes [] [] e = refl
+same-bytes [] (y ∷ b) e = clash (cc)
+same-bytes (x ∷ a) [] e = clash (cc)
+same-bytes (x ∷ a) (y ∷ b) e =
+    let q = and-inv (eqb x y) (sameBytes a b) e in
+    ap₂ {C = List ℕ} (λ z t. z ∷ t) (eqb-true x y (q .0)) (same-bytes a b (q .1))
+
+pub bytes-same : (a : List ℕ) → sameBytes a a ≡ true
+bytes-same [] = refl
+bytes-same (x ∷ a) = rw (eq-eqb x x refl) (bytes-same a)

@@ -4,15 +4,17 @@ use mathlib.Core.Path.{_≡_, refl, sym, ap, _∙_, subst}
 use Prim.Native.Nat.{ℕ, _+_, _≤_}
 use native.Mathlib.Omega.{arith}
 use mathlib.Core.List.{List, [], _∷_, _++_, append-assoc}
-use lib.ListN.{length, drop, length-append}
-use lib.Seq.{drop-at}
+use lib.ListN.{length, take, drop, length-append}
+use lib.Seq.{take-at, drop-at}
 use Rattle.fields.specs.Lists.{flat}
 use Rattle.fields.specs.Number.{Bytes}
-use Rattle.fields.specs.Answer.{Answer, accepted, refused, next-inv, refused-inv, accepted-one}
+use Rattle.fields.specs.Answer.{Answer, accepted, refused, next-inv, refused-inv, accepted-one, accepted-inj}
 use Rattle.gdb_format.specs.Trace.{Trace, opening, putLine, putFrame, encode}
-use Rattle.gdb_format.specs.Layout.{Layout}
-use Rattle.gdb_format.specs.Decode.{read}
-use Rattle.gdb_format.specs.Exactness.{read-exactness}
+use Rattle.gdb_format.specs.Layout.{LinesFit, Layout}
+use Rattle.gdb_format.specs.Settings.{settingsOf}
+use Rattle.gdb_format.specs.Decode.{openingLines, decode, read}
+use Rattle.gdb_format.specs.ExactLines.{exact-opening}
+use Rattle.gdb_format.specs.Exactness.{decode-encode, read-exactness}
 use Rattle.gdb_format.specs.declared.Settings.{Settings}
 use Rattle.gdb_format.specs.declared.Format.{Format}
 use Rattle.gdb_read.specs.Steps.{Summary, summaryOf, readSeen}
@@ -22,26 +24,51 @@ use Rattle.gdb_frames.specs.Questions.{asked, frameCount}
 
 pub record File (f : Format) (b : List ℕ) (t : Trace) : Type 0 where
   pub fits : Layout f t
-  pub laid-out : opening (t .lines) ++ flat (putFrame f) (t .frames) ≡ b
+  pub laid-out : encode f t ≡ b
 
 -- the frames stand behind the opening
 pub frames-behind : (f : Format) (b : List ℕ) (t : Trace) → File f b t → drop (length (opening (t .lines))) b ≡ flat (putFrame f) (t .frames)
+unfolding encode
 frames-behind f b t i =
     ap (drop (length (opening (t .lines)))) (sym (i .laid-out)) ∙ drop-at (opening (t .lines)) (flat (putFrame f) (t .frames)) (length (opening (t .lines))) refl
 
 pub start-within : (f : Format) (b : List ℕ) (t : Trace) → File f b t → length (opening (t .lines)) ≤ length b
+unfolding encode
 start-within f b t i = omega (arith, ap length (i .laid-out), length-append (opening (t .lines)) (flat (putFrame f) (t .frames)))
 
 pub file-of : (s : Settings) (b : List ℕ) (f : Format) (t : Trace) → Bytes b → read s b ≡ accepted (f, t) → File f b t
-unfolding encode
 file-of s b f t h e = let l = (read-exactness s b f t h) .0 e in record { fits = l .1; laid-out = l .2 }
+
+-- a file starts with its opening
+pub opening-front : (f : Format) (b : List ℕ) (t : Trace) → File f b t → take (length (opening (t .lines))) b ≡ opening (t .lines)
+unfolding encode
+opening-front f b t i =
+    let o = opening (t .lines) in
+    ap (take (length o)) (sym (i .laid-out)) ∙ take-at o (flat (putFrame f) (t .frames)) (length o) refl
+
+pub length-encode : (f : Format) (t : Trace) → length (encode f t) ≡ length (opening (t .lines)) + length (flat (putFrame f) (t .frames))
+unfolding encode
+length-encode f t = length-append (opening (t .lines)) (flat (putFrame f) (t .frames))
+
+-- a file is read as the trace that it holds
+pub decode-file : (f : Format) (b : List ℕ) (t : Trace) → File f b t → decode f b ≡ accepted t
+decode-file f b t i = ap (decode f) (sym (i .laid-out)) ∙ decode-encode f t (i .fits)
+
+pub read-file : (s : Settings) (f : Format) (b : List ℕ) (t : Trace) → settingsOf s ≡ accepted f → File f b t → read s b ≡ accepted (f, t)
+unfolding read
+read-file s f b t ok i = rw (ok, decode-file f b t i)
+
+-- identical openings are identical lines
+pub same-lines : (f : Format) (ls ms : List (List ℕ)) → LinesFit f ls → LinesFit f ms → opening ls ≡ opening ms → ls ≡ ms
+same-lines f ls ms h k e =
+    (accepted-inj (sym ((exact-opening f) .back ls [] h) ∙ ap (λ b. openingLines f (b ++ [])) e ∙ (exact-opening f) .back ms [] k)) .0
 
 -- what the whole reading's answer tells
 pub summary-inv : (m : Summary) (x : Answer (Format × Trace)) → accepted m ≡ readSeen x → (r : Format × Trace) × (x ≡ accepted r) × (summaryOf (r .0) (r .1) ≡ m)
 summary-inv m x e = let q = next-inv x (λ r. accepted (summaryOf (r .0) (r .1))) (sym e) in (q .0, q .1, accepted-one (q .2))
 
 pub lines-behind : (f : Format) (b : List ℕ) (t : Trace) → File f b t → drop 8 b ≡ flat putLine (t .lines) ++ 0x0A ∷ flat (putFrame f) (t .frames)
-unfolding opening
+unfolding opening encode
 lines-behind f b t i =
     ap (drop 8) (sym (i .laid-out)) ∙ append-assoc (flat putLine (t .lines)) (0x0A ∷ []) (flat (putFrame f) (t .frames))
 

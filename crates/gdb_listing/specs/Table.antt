@@ -25,7 +25,7 @@ use Rattle.gdb_read.specs.Steps.{Row, frameSeen, Summary, readSeen}
 use Rattle.gdb_frames.specs.Places.{placed, nth}
 use Rattle.gdb_frames.specs.Questions.{asked, table}
 use Rattle.gdb_frames.specs.Nth.{nthHead, shownNth}
-use Rattle.gdb_frames.specs.File.{File, file-of, asked-refused, told}
+use Rattle.gdb_frames.specs.File.{File, file-of, length-encode, asked-refused, told}
 use Rattle.gdb_frames.specs.Located.{head-nth}
 use Rattle.gdb_listing.specs.Text.{decimal, ended, lineOf, framesWord, refusedWord, text, listingLimit, little, wholeTable, listed}
 use Rattle.gdb_listing.specs.DecimalLaws.{decimal-long, ended-length, line-short}
@@ -80,7 +80,7 @@ module _ (f : Format) (b : List ℕ) (t : Trace) (i : File f b t) where
   rows-table = rows-shown f b (t .frames) (length (opening (t .lines))) (λ n. head-nth f b t n i)
 
   file-length : length (opening (t .lines)) + length (flat (putFrame f) (t .frames)) ≡ length b
-  file-length = sym (length-append (opening (t .lines)) (flat (putFrame f) (t .frames))) ∙ ap length (i .laid-out)
+  file-length = sym (length-encode f t) ∙ ap length (i .laid-out)
 
   pub frames-few : 6 * length (t .frames) ≤ length b
   frames-few = omega (arith, frames-length f (t .frames), file-length)

@@ -10,7 +10,7 @@ use Rattle.gdb_format.specs.Numbers.{fileNumbers, file-numbers}
 use Rattle.gdb_format.specs.declared.Settings.{Settings}
 use Rattle.gdb_frames.specs.Numbers.{questionNumbers, frame-data-numbers}
 use Rattle.gdb_blocks.specs.Numbers.{variable-numbers}
-use Rattle.gdb_edit.specs.Numbers.{joinableNumbers, joined-numbers}
+use Rattle.gdb_join.specs.Numbers.{joinableNumbers, joined-numbers}
 use Rattle.gdb_pair.specs.Pair.{pairPlace, pairVariable}
 
 -- 1 to 10, 13 and 12

@@ -18,7 +18,7 @@ use Rattle.gdb_read.specs.Steps.{Row}
 use Rattle.gdb_frames.specs.Places.{part, partLength}
 use Rattle.gdb_frames.specs.Questions.{asked, dataIn, frameData}
 use Rattle.gdb_blocks.specs.Search.{variableAt}
-use Rattle.gdb_edit.specs.Cut.{joinOf}
+use Rattle.gdb_join.specs.Join.{joinOf}
 use Rattle.gdb_pair.specs.declared.PairPlace.{PairPlace}
 use Rattle.gdb_pair.specs.declared.PairPlace.the-variants as pair
 

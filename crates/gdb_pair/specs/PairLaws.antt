@@ -27,10 +27,12 @@ use Rattle.gdb_frames.specs.Located.{head-nth, shown-none}
 use Rattle.gdb_blocks.specs.Search.{earliest, variableAt}
 use Rattle.gdb_blocks.specs.Held.{valueOf, heldIn}
 use Rattle.gdb_blocks.specs.ShownLaws.{value-held}
-use Rattle.gdb_edit.specs.Cut.{join, joinOf}
-use Rattle.gdb_edit.specs.Joined.{pairSeen}
-use Rattle.gdb_edit.specs.CutLaws.{layout-join, holds, read-file, same-bytes, same-lines}
-use Rattle.gdb_edit.specs.JoinLaws.{refused-same, Both, join-inv, pair-gives}
+use Rattle.gdb_join.specs.Join.{join, joinOf}
+use Rattle.gdb_join.specs.Joined.{pairSeen}
+use Rattle.gdb_join.specs.JoinTraces.{layout-join}
+use Rattle.gdb_frames.specs.File.{read-file, same-lines}
+use Rattle.fields.specs.Word.{same-bytes}
+use Rattle.gdb_join.specs.JoinLaws.{refused-same, Both, join-inv, pair-gives}
 use Rattle.gdb_pair.specs.Pair.{Side, first, second, onSide, sided, pairPlace, pairPart, HandedPair, pairVariable, foundPlace}
 
 -- ---- a pair that can be joined
@@ -50,7 +52,7 @@ joined s a b c ha hb e =
     let u = q .2 in
     let i = q .3 in
     let l : t .lines ≡ u .lines = same-lines f (t .lines) (u .lines) (i .first-file .fits .lines-fit) (i .second-file .fits .lines-fit) (same-bytes _ _ (q .4)) in
-    let j : File f c (join t u) = holds f (join t u) c (layout-join f t u (i .first-file .fits) (i .second-file .fits) l (q .5)) (q .6) in
+    let j : File f c (join t u) = record { fits = layout-join f t u (i .first-file .fits) (i .second-file .fits) l (q .5); laid-out = q .6 } in
     let ok : settingsOf s ≡ accepted f = ((read-exactness s a f t ha) .0 (i .first-read)) .0 in
     (f, t, u, record { both = i; gives = e; join-file = j; join-read = read-file s f c (join t u) ok j })
 

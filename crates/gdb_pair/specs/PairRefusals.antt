@@ -16,7 +16,7 @@ use Rattle.gdb_format.specs.declared.Format.{Format}
 use Rattle.gdb_frames.specs.Places.{framesAt, nth}
 use Rattle.gdb_frames.specs.Questions.{asked, frameData}
 use Rattle.gdb_frames.specs.PlaceLaws.{placed-nth}
-use Rattle.gdb_edit.specs.Cut.{join, joinOf}
+use Rattle.gdb_join.specs.Join.{join, joinOf}
 use Rattle.gdb_pair.specs.Pair.{Side, first, second, onSide, pairPlace}
 use Rattle.gdb_pair.specs.PairLaws.{Joined, joined, placeOf, nth-first, nth-second, place-is, asked-join, place-refused}
 

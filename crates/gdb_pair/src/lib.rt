@@ -5,9 +5,9 @@ ghost use Rattle.gdb_frames.specs.Questions.{placeAnswer};
 ghost use Rattle.gdb_blocks.specs.Search.{valueAnswer};
 ghost use Rattle.gdb_pair.specs.Pair.{foundPlace, pairPlace, pairSaid, HandedPair, pairVariable};
 use gdb_blocks::ValueAnswer;
-use gdb_edit::Pair;
 use gdb_format::Settings;
 use gdb_frames::PlaceAnswer;
+use gdb_join::Pair;
 use gdb_read::FrameStep;
 use gdb_read::Opened;
 use refusals::NOT_FOUND;
@@ -38,7 +38,7 @@ pub enum PairPlace {
 pub fn pair_place(settings: Settings, first: &[u8], second: &[u8], n: usize) -> PairPlace
     ensures { λ r. ⌜ pairSaid r ≡ pairPlace settings (now (first .entry)) (now (second .entry)) n ⌝ }
 {
-    match gdb_edit::joinable(settings, first, second) {
+    match gdb_join::joinable(settings, first, second) {
         Pair::Refused(k) => PairPlace::Refused(k),
         Pair::Sound {
             first: a,
@@ -87,7 +87,7 @@ pub fn pair_variable(
 ) -> ValueAnswer
     ensures { λ r. ⌜ valueAnswer r ≡ pairVariable settings (now (first .entry)) (now (second .entry)) n number ⌝ }
 {
-    match gdb_edit::joinable(settings, first, second) {
+    match gdb_join::joinable(settings, first, second) {
         Pair::Refused(k) => ValueAnswer::Refused(k),
         Pair::Sound {
             first: a,

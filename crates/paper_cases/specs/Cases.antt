@@ -16,9 +16,9 @@ use Rattle.gdb_read.specs.Steps.{Row}
 use Rattle.gdb_frames.specs.Places.{part}
 use Rattle.gdb_frames.specs.Questions.{asked, table}
 use Rattle.gdb_blocks.specs.Search.{registersAt, memoryAt, variableAt}
-use Rattle.gdb_edit.specs.Cut.{cutOf}
-use Rattle.gdb_edit.specs.declared.Range.{Range}
-use Rattle.gdb_edit.specs.declared.Selection.{Selection}
+use Rattle.gdb_cut.specs.Cut.{cutOf}
+use Rattle.gdb_cut.specs.declared.Range.{Range}
+use Rattle.gdb_cut.specs.declared.Selection.{Selection}
 
 pub data Question : Type 0 where
   frames : Question

@@ -17,8 +17,10 @@ use Rattle.gdb_format.specs.Decode.{decode, read}
 use Rattle.gdb_format.specs.declared.Settings.{Settings}
 use Rattle.gdb_format.specs.declared.Format.{Format}
 use Rattle.gdb_frames.specs.File.{File}
-use Rattle.gdb_edit.specs.Cut.{join, joinOf}
-use Rattle.gdb_edit.specs.CutLaws.{length-encode, holds, read-file, join-call, bytes-same}
+use Rattle.gdb_join.specs.Join.{join, joinOf}
+use Rattle.gdb_frames.specs.File.{length-encode, read-file}
+use Rattle.gdb_join.specs.JoinTraces.{join-call}
+use Rattle.fields.specs.Word.{bytes-same}
 
 -- a line `xxx..` of k + 1 bytes, and one frame of size 0
 abbrev long : ℕ → Trace
@@ -41,11 +43,14 @@ module _ (s : Settings) (f : Format) (ok : settingsOf s ≡ accepted f) (k : ℕ
 
   file-long : k + 17 ≤ limit → File f (encode f (long k)) (long k)
   file-long h =
-      holds f (long k) (encode f (long k)) (record {
-        lines-fit = (((omega arith, ((λ e. absurd (omega arith)), no-end k), λ e. clash (cc)), tt), omega arith, omega arith);
-        frames-fit = ((omega arith, omega arith, tt), tt);
-        length-fits = omega (arith, h, length-encode f (long k), opening-long, frame-long);
-      }) refl
+      record {
+        fits = record {
+          lines-fit = (((omega arith, ((λ e. absurd (omega arith)), no-end k), λ e. clash (cc)), tt), omega arith, omega arith);
+          frames-fit = ((omega arith, omega arith, tt), tt);
+          length-fits = omega (arith, h, length-encode f (long k), opening-long, frame-long);
+        };
+        laid-out = refl;
+      }
 
   -- a file of 67,108,864 bytes is read, one of a byte more is refused with 1
   pub longest-file : k + 17 ≡ 67108864 → read s (encode f (long k)) ≡ accepted (f, long k)

@@ -13,7 +13,7 @@ use Rattle.gdb_format.specs.declared.LineKind.{LineKind}
 use Rattle.gdb_format.specs.declared.LineKind.the-variants as kind
 use Rattle.gdb_read.specs.Steps.{Carried, registers, memory, variable}
 use Rattle.fields.specs.Output.{answer, exit}
-use Rattle.gdb_edit.specs.declared.Selection as edit
+use Rattle.gdb_cut.specs.declared.Selection as edit
 use Rattle.gdb_pair.specs.Pair.{Side, first, second}
 use Rattle.trace_c.specs.declared.questions.Count.{Count}
 use Rattle.trace_c.specs.declared.questions.Place.{Place}

@@ -19,9 +19,11 @@ use Rattle.gdb_blocks.specs.Numbers.{block-record-numbers, registers-place-numb
 use Rattle.gdb_table.specs.Records.{frameTable}
 use Rattle.gdb_table.specs.declared.FrameRecord.{FrameRecord}
 use Rattle.gdb_table.specs.Numbers.{tableNumbers, table-numbers}
-use Rattle.gdb_edit.specs.Cut.{cutOf, joinOf}
-use Rattle.gdb_edit.specs.Numbers.{cutNumbers, cut-numbers, joinNumbers, join-numbers}
-use Rattle.gdb_edit.specs.declared.Selection as edit
+use Rattle.gdb_cut.specs.Cut.{cutOf}
+use Rattle.gdb_join.specs.Join.{joinOf}
+use Rattle.gdb_cut.specs.Numbers.{cutNumbers, cut-numbers}
+use Rattle.gdb_join.specs.Numbers.{joinNumbers, join-numbers}
+use Rattle.gdb_cut.specs.declared.Selection as edit
 use Rattle.gdb_pair.specs.Pair.{pairPlace, pairVariable}
 use Rattle.gdb_pair.specs.Numbers.{pairNumbers, pair-place-numbers, pair-variable-numbers}
 use Rattle.dat_format.specs.Numbers.{datNumbers}

@@ -1,14 +1,15 @@
 // Cut, join and pairs of GDB traces.
 ghost use mathlib.Core.Path.{_≡_};
-ghost use Rattle.gdb_edit.specs.Cut.{cutOf, joinOf};
-ghost use Rattle.gdb_edit.specs.Output.{editAnswer};
-ghost use Rattle.gdb_edit.specs.Selection.{against};
+ghost use Rattle.gdb_cut.specs.Cut.{cutOf};
+ghost use Rattle.gdb_join.specs.Join.{joinOf};
+ghost use Rattle.gdb_cut.specs.Cut.{editAnswer};
+ghost use Rattle.gdb_cut.specs.Selection.{against};
 ghost use Rattle.gdb_pair.specs.Pair.{pairPlace, pairSaid, pairVariable};
 ghost use Rattle.trace_c.specs.Flat.{flatValue, flatLength, flatPair, selectionIn, flatSelection, FlatLent};
 use super::questions::Value;
 use super::questions::flat_value;
-use gdb_edit::EditAnswer;
-use gdb_edit::Range;
+use gdb_cut::EditAnswer;
+use gdb_cut::Range;
 use gdb_format::Settings;
 use gdb_pair::PairPlace;
 
@@ -20,18 +21,18 @@ pub struct Selection {
     pub keep: u8,
 }
 
-fn selection_in(selection: Selection) -> gdb_edit::Selection
+fn selection_in(selection: Selection) -> gdb_cut::Selection
     ensures { λ r. ⌜ r ≡ selectionIn selection ⌝ }
 {
     let ranges = selection.ranges;
-    gdb_edit::Selection {
+    gdb_cut::Selection {
         ranges,
         count: selection.count,
         keep: selection.keep != 0,
     }
 }
 
-fn flat_selection(selection: gdb_edit::Selection) -> Selection
+fn flat_selection(selection: gdb_cut::Selection) -> Selection
     ensures { λ r. ⌜ r ≡ flatSelection selection ⌝ }
 {
     let ranges = selection.ranges;
@@ -47,7 +48,7 @@ pub extern "C" fn tfk_opposite(selection: Selection) -> Selection
     ensures { λ r. ⌜ r ≡ flatSelection (against (selectionIn selection)) ⌝ }
 {
     let given = selection_in(selection);
-    let turned = gdb_edit::opposite(given);
+    let turned = gdb_cut::opposite(given);
     flat_selection(turned)
 }
 
@@ -75,7 +76,7 @@ pub extern "C" fn tfk_cut(
 ) -> Length
     ensures { λ r. ⌜ FlatLent flatLength (cutOf settings (selectionIn selection) (now (file .entry))) (now (out .entry)) r (now (out .exit)) ⌝ }
 {
-    flat_length(gdb_edit::cut(settings, file, selection_in(selection), out))
+    flat_length(gdb_cut::cut(settings, file, selection_in(selection), out))
 }
 
 #[no_mangle]
@@ -87,7 +88,7 @@ pub extern "C" fn tfk_join(
 ) -> Length
     ensures { λ r. ⌜ FlatLent flatLength (joinOf settings (now (first .entry)) (now (second .entry))) (now (out .entry)) r (now (out .exit)) ⌝ }
 {
-    flat_length(gdb_edit::join(settings, first, second, out))
+    flat_length(gdb_join::join(settings, first, second, out))
 }
 
 #[repr(C)]

@@ -5,8 +5,8 @@ use Rattle.fields.specs.Number.{Bytes, bytes-all}
 use Rattle.fields.specs.Answer.{accepted}
 use Rattle.gdb_read.specs.Steps.{summarySaid}
 use Rattle.gdb_frames.specs.Questions.{placeAnswer}
-use Rattle.gdb_edit.specs.Joined.{pairMeaning, pairSeen}
-use Rattle.gdb_edit.specs.JoinLaws.{pair-refused}
+use Rattle.gdb_join.specs.Joined.{pairMeaning, pairSeen}
+use Rattle.gdb_join.specs.JoinLaws.{pair-refused}
 use Rattle.gdb_pair.specs.Pair.{first, second, onSide}
 use Rattle.gdb_pair.specs.PairLaws.{place-refused, first-told, second-told}
 use borrow.Author.Needs.{needs}

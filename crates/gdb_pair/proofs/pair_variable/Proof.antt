@@ -4,8 +4,8 @@ use mathlib.Core.Path.{_≡_, sym, ap, _∙_}
 use Rattle.fields.specs.Number.{Bytes, bytes-all}
 use Rattle.fields.specs.Answer.{accepted}
 use Rattle.gdb_read.specs.Steps.{summarySaid}
-use Rattle.gdb_edit.specs.Joined.{pairMeaning, pairSeen}
-use Rattle.gdb_edit.specs.JoinLaws.{pair-refused}
+use Rattle.gdb_join.specs.Joined.{pairMeaning, pairSeen}
+use Rattle.gdb_join.specs.JoinLaws.{pair-refused}
 use Rattle.gdb_pair.specs.PairLaws.{variable-refused, value-first, value-second}
 use borrow.Author.Needs.{needs}
 use native.Mathlib.Omega.{arith}

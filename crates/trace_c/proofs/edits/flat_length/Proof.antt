@@ -1,7 +1,7 @@
 -- `trace_c::edits::flat_length` meets its contract: the length, or the refusal. Assumes nothing.
 use mathlib.Core.Path.{sym, ap}
 use borrow.Author.Needs.{needs}
-use Rattle.gdb_edit.specs.Output.{editAnswer}
+use Rattle.gdb_cut.specs.Cut.{editAnswer}
 use Rattle.trace_c.specs.Flat.{flatLength}
 use Rattle.trace_c.proofs.edits.flat_length.Statement.{statement}
 use Rattle.trace_c.proofs.edits.flat_length.Tie as tie

@@ -1,4 +1,4 @@
--- `trace_c::edits::tfk_cut` meets its contract: what `gdb_edit::cut` answers and leaves. Assumes nothing.
+-- `trace_c::edits::tfk_cut` meets its contract: what `gdb_cut::cut` answers and leaves. Assumes nothing.
 use mathlib.Core.Path.{ap, _∙_}
 use borrow.Author.Needs.{needs}
 use Rattle.trace_c.specs.Flat.{flatLength}

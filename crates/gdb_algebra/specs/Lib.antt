@@ -1,0 +1,4 @@
+pub mod Plan
+pub mod PlanLaws
+pub mod Standing
+pub mod Algebra

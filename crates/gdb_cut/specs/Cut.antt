@@ -1,0 +1,34 @@
+-- A cut: on traces, and the bytes that it gives of a file; and what the answer of a cut or a join means.
+-- Assumes nothing: these are definitions.
+use mathlib.Core.Bool.{Bool, cond}
+use Prim.Native.Nat.{ℕ}
+use mathlib.Core.List.{List, [], _∷_}
+use Rattle.fields.specs.Answer.{Answer, accepted, refused, next}
+use Rattle.gdb_format.specs.Trace.{Trace, withFrames, encode}
+use Rattle.gdb_format.specs.Decode.{read}
+use Rattle.gdb_format.specs.declared.Settings.{Settings}
+use Rattle.gdb_cut.specs.Selection.{Selection, picks, selectionOf}
+use Rattle.gdb_cut.specs.declared.Selection as lent
+use Rattle.gdb_cut.specs.declared.EditAnswer.{EditAnswer}
+use Rattle.gdb_cut.specs.declared.EditAnswer.the-variants.{Written, Refused}
+
+-- ---- traces
+
+abbrev pub sift : {A : Type 0} → (A → Bool) → List A → List A
+sift p [] = []
+sift p (x ∷ xs) = cond (p x) (x ∷ sift p xs) (sift p xs)
+
+-- the opening, then every selected frame, bytes and order unchanged
+abbrev pub cut : Selection → Trace → Trace
+cut c t = withFrames t (sift (picks c) (t .frames))
+
+-- ---- the bytes of a cut, where the output has room
+
+unfoldable pub cutOf : Settings → lent.Selection → List ℕ → Answer (List ℕ)
+unfolding encode
+cutOf s sel b = next (selectionOf sel) (λ c. next (read s b) (λ r. accepted (encode (r .0) (cut c (r .1)))))
+
+-- what `EditAnswer` says
+abbrev pub editAnswer : EditAnswer → Answer ℕ
+editAnswer (Written n) = accepted n
+editAnswer (Refused n) = refused n

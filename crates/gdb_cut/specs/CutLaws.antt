@@ -1,0 +1,128 @@
+-- The laws of a cut on traces, and that a cut keeps the layout.
+-- Assumes nothing.
+use mathlib.Core.Path.{_≡_, refl, sym, ap, _∙_}
+use mathlib.Core.Bool.{Bool, true, false, cond, not, _&&_, Bool·beq}
+use Prim.Native.Nat.{ℕ, _+_, _≤_}
+use native.Mathlib.Omega.{arith}
+use mathlib.Core.List.{List, [], _∷_, _++_}
+use lib.ListN.{length, length-append}
+use Rattle.fields.specs.Lists.{flat, Each}
+use Rattle.fields.specs.Answer.{accepted}
+use Rattle.gdb_format.specs.Trace.{Frame, Trace, traceOf, opening, putFrame, encode}
+use Rattle.gdb_format.specs.Lines.{registerSize}
+use Rattle.gdb_format.specs.Layout.{FrameFits, Layout}
+use Rattle.gdb_format.specs.Settings.{settingsOf}
+use Rattle.gdb_format.specs.declared.Settings.{Settings}
+use Rattle.gdb_format.specs.declared.Format.{Format}
+use Rattle.gdb_frames.specs.File.{File, length-encode, read-file}
+use Rattle.gdb_cut.specs.Selection.{Selection, inSome, picks, opposite, meaning, valid, against}
+use Rattle.gdb_cut.specs.Cut.{sift, cut, cutOf}
+use Rattle.gdb_cut.specs.declared.Selection as lent
+
+-- ---- lists
+
+module _ {A : Type 0} where
+  pub sift-append : (p : A → Bool) (l m : List A) → sift p (l ++ m) ≡ sift p l ++ sift p m
+  sift-append p [] m = refl
+  sift-append p (x ∷ l) m = by (p x) (sift-append p l m)
+    where
+      by : (t : Bool) → sift p (l ++ m) ≡ sift p l ++ sift p m
+          → cond t (x ∷ sift p (l ++ m)) (sift p (l ++ m)) ≡ cond t (x ∷ sift p l) (sift p l) ++ sift p m
+      by true e = ap (λ r. x ∷ r) e
+      by false e = e
+
+  sift-sift : (p q : A → Bool) (l : List A) → sift q (sift p l) ≡ sift (λ x. p x && q x) l
+  sift-sift p q [] = refl
+  sift-sift p q (x ∷ l) = by (p x) (q x) refl (sift-sift p q l)
+    where
+      by : (t u : Bool) → q x ≡ u → sift q (sift p l) ≡ sift (λ x. p x && q x) l
+          → sift q (cond t (x ∷ sift p l) (sift p l)) ≡ cond (t && u) (x ∷ sift (λ x. p x && q x) l) (sift (λ x. p x && q x) l)
+      by true true e f = rw (e, f)
+      by true false e f = rw (e, f)
+      by false u e f = f
+
+  sift-same : (p q : A → Bool) → ((x : A) → p x ≡ q x) → (l : List A) → sift p l ≡ sift q l
+  sift-same p q e [] = refl
+  sift-same p q e (x ∷ l) = rw (e x, sift-same p q e l)
+
+  sift-each : (P : A → Type 0) (p : A → Bool) (l : List A) → Each P l → Each P (sift p l)
+  sift-each P p [] h = tt
+  sift-each P p (x ∷ l) h = by (p x) (sift-each P p l (h .1))
+    where
+      by : (t : Bool) → Each P (sift p l) → Each P (cond t (x ∷ sift p l) (sift p l))
+      by true k = (h .0, k)
+      by false k = k
+
+  -- kept and dropped together are all
+  flat-parts : (f : A → List ℕ) (p : A → Bool) (l : List A)
+      → length (flat f (sift p l)) + length (flat f (sift (λ x. not (p x)) l)) ≡ length (flat f l)
+  flat-parts f p [] = refl
+  flat-parts f p (x ∷ l) = by (p x) (flat-parts f p l)
+    where
+      by : (t : Bool) → length (flat f (sift p l)) + length (flat f (sift (λ x. not (p x)) l)) ≡ length (flat f l)
+          → length (flat f (cond t (x ∷ sift p l) (sift p l))) + length (flat f (cond (not t) (x ∷ sift (λ x. not (p x)) l) (sift (λ x. not (p x)) l))) ≡ length (flat f (x ∷ l))
+      by true e = simp length-append (omega arith)
+      by false e = simp length-append (omega arith)
+
+-- ---- traces
+
+-- the frames that a and b both select, in file order
+abbrev pub both : Selection → Selection → Trace → Trace
+both a b t = traceOf (t .lines) (sift (λ r. picks a r && picks b r) (t .frames))
+
+and-comm : (p q : Bool) → p && q ≡ q && p
+and-comm true true = refl
+and-comm true false = refl
+and-comm false true = refl
+and-comm false false = refl
+
+pub cut-cut : (a b : Selection) (t : Trace) → cut b (cut a t) ≡ both a b t
+cut-cut a b t = rw (sift-sift (picks a) (picks b) (t .frames))
+
+pub cut-comm : (a b : Selection) (t : Trace) → cut b (cut a t) ≡ cut a (cut b t)
+cut-comm a b t = cut-cut a b t ∙ ap (traceOf (t .lines)) (sift-same _ _ (λ r. and-comm (picks a r) (picks b r)) (t .frames)) ∙ sym (cut-cut b a t)
+
+beq-not : (k b : Bool) → Bool·beq (not k) b ≡ not (Bool·beq k b)
+beq-not true true = refl
+beq-not true false = refl
+beq-not false true = refl
+beq-not false false = refl
+
+-- the lent selection that `opposite` answers means the opposite
+pub against-means : (s : lent.Selection) → meaning (against s) ≡ opposite (meaning s)
+against-means s = refl
+
+-- the opposite selects just the others
+pub picks-other : (c : Selection) (r : Frame) → picks (opposite c) r ≡ not (picks c r)
+picks-other c r = beq-not (c .keep) (inSome (c .ranges) (r .tracepoint))
+
+-- a cut is no longer than its trace
+pub cut-shorter : (f : Format) (c : Selection) (t : Trace) → length (encode f (cut c t)) ≤ length (encode f t)
+cut-shorter f c t = omega (arith, length-encode f t, length-encode f (cut c t), flat-parts (putFrame f) (picks c) (t .frames))
+
+-- what is kept and what is dropped: the file's length, and one opening more
+pub cut-lengths : (f : Format) (c : Selection) (t : Trace)
+    → length (encode f (cut c t)) + length (encode f (cut (opposite c) t)) ≡ length (encode f t) + length (opening (t .lines))
+cut-lengths f c t =
+    rw (sift-same (picks (opposite c)) (λ r. not (picks c r)) (picks-other c) (t .frames))
+    (omega (
+      arith,
+      flat-parts (putFrame f) (picks c) (t .frames),
+      length-encode f t,
+      length-encode f (cut c t),
+      length-encode f (traceOf (t .lines) (sift (λ r. not (picks c r)) (t .frames))),
+    ))
+
+pub layout-cut : (f : Format) (c : Selection) (t : Trace) → Layout f t → Layout f (cut c t)
+layout-cut f c t h =
+    record {
+      lines-fit = h .lines-fit;
+      frames-fit = sift-each (FrameFits f (registerSize f (t .lines))) (picks c) (t .frames) (h .frames-fit);
+      length-fits = omega (arith, h .length-fits, cut-shorter f c t);
+    }
+
+-- what a cut of a file that holds a trace gives
+pub cut-call : (s : Settings) (f : Format) (ok : settingsOf s ≡ accepted f) (c : lent.Selection) (b : List ℕ) (t : Trace) → valid c ≡ true → File f b t
+    → cutOf s c b ≡ accepted (encode f (cut (meaning c) t))
+unfolding cutOf
+cut-call s f ok c b t e i = rw (e, read-file s f b t ok i)

@@ -1,0 +1,5 @@
+pub mod Selection
+pub mod Cut
+pub mod Kept
+pub mod CutLaws
+pub mod Numbers

@@ -1,0 +1,179 @@
+// Selections, and cutting GDB traces into an output that the caller lends.
+ghost use mathlib.Core.Path.{_≡_};
+ghost use mathlib.Core.List.{_++_};
+ghost use Prim.Native.Nat.{_+_, _≤_};
+ghost use lib.Dec.{leb};
+ghost use lib.ListN.{length, take, drop};
+ghost use Rattle.fields.specs.Output.{Lent};
+ghost use Rattle.gdb_cut.specs.Selection.{inSome, selects, meaning, valid, against};
+ghost use Rattle.gdb_cut.specs.Cut.{cutOf, editAnswer};
+ghost use Rattle.gdb_cut.specs.Kept.{kept, Heads};
+use gdb_format::Format;
+use gdb_format::Settings;
+use gdb_read::FrameStep;
+use gdb_read::Reading;
+use refusals::BAD_ARGUMENT;
+use refusals::NO_ROOM;
+
+// Tracepoint numbers from low to high, both among them.
+#[repr(C)]
+pub struct Range {
+    pub low: u16,
+    pub high: u16,
+}
+
+// The numbers in one of the first `count` ranges, or with `keep` false the others. The ranges behind are no part of it.
+pub struct Selection {
+    pub ranges: [Range; 8],
+    pub count: usize,
+    pub keep: bool,
+}
+
+pub enum EditAnswer {
+    Written(usize),
+    Refused(u8),
+}
+
+// The selection of the others.
+pub fn opposite(selection: Selection) -> Selection
+    ensures { λ r. ⌜ r ≡ against selection ⌝ }
+{
+    let mut other = selection;
+    other.keep = !selection.keep;
+    other
+}
+
+fn is_valid(selection: Selection) -> bool
+    ensures { λ r. ⌜ r ≡ valid selection ⌝ }
+{
+    let count = selection.count;
+    if 8 < count {
+        return false;
+    }
+    let mut i: usize = 0;
+    while i < count {
+        let r = selection.ranges[i];
+        if r.high < r.low {
+            return false;
+        }
+        i += 1;
+    }
+    true
+}
+
+fn in_some(selection: Selection, n: u16) -> bool
+    requires { ⌜ selection .count ≤ 8 ⌝ }
+    ensures { λ r. ⌜ r ≡ inSome (meaning selection .ranges) n ⌝ }
+{
+    let count = selection.count;
+    let mut i: usize = 0;
+    while i < count {
+        let r = selection.ranges[i];
+        if r.low <= n {
+            if n <= r.high {
+                return true;
+            }
+        }
+        i += 1;
+    }
+    false
+}
+
+fn is_selected(selection: Selection, n: u16) -> bool
+    requires { ⌜ selection .count ≤ 8 ⌝ }
+    ensures { λ r. ⌜ r ≡ selects (meaning selection) n ⌝ }
+{
+    if in_some(selection, n) {
+        return selection.keep;
+    }
+    !selection.keep
+}
+
+// How long the cut is of a file whose frames start at `start`.
+fn cut_length(format: Format, file: &[u8], selection: Selection, start: usize) -> usize
+    requires { ⌜ (start ≤ length (now file)) × Heads format (drop start (now file)) × (selection .count ≤ 8) ⌝ }
+    ensures { λ r. ⌜ r ≡ start + length (kept format (meaning selection) (drop start (now (file .entry)))) ⌝ }
+{
+    let mut at = start;
+    let mut len = start;
+    loop {
+        match gdb_read::head_at(format, file, at) {
+            FrameStep::End => {
+                return len;
+            }
+            FrameStep::Refused(_) => {
+                return len;
+            }
+            FrameStep::Frame { head, next } => {
+                if is_selected(selection, head.tracepoint) {
+                    len += next - at;
+                }
+                at = next;
+            }
+        }
+    }
+}
+
+// Whether the cut fits into `room` bytes. It is no longer than the file, so that where the file fits the frames need no walk.
+fn has_room(format: Format, file: &[u8], selection: Selection, start: usize, room: usize) -> bool
+    requires { ⌜ (start ≤ length (now file)) × Heads format (drop start (now file)) × (selection .count ≤ 8) ⌝ }
+    ensures { λ r. ⌜ r ≡ leb (start + length (kept format (meaning selection) (drop start (now (file .entry))))) room ⌝ }
+{
+    if file.len() <= room {
+        return true;
+    }
+    cut_length(format, file, selection, start) <= room
+}
+
+// Writes the opening and each kept frame; the caller has seen that there is room.
+fn write_cut(
+    format: Format,
+    file: &[u8],
+    selection: Selection,
+    start: usize,
+    out: &mut [u8],
+) -> usize
+    requires { ⌜ (start ≤ length (now file)) × Heads format (drop start (now file)) × (selection .count ≤ 8) × (start + length (kept format (meaning selection) (drop start (now file))) ≤ length (now out)) ⌝ }
+    ensures { λ r. ⌜ (r ≡ start + length (kept format (meaning selection) (drop start (now (file .entry))))) × (now (out .exit) ≡ (take start (now (file .entry)) ++ kept format (meaning selection) (drop start (now (file .entry)))) ++ drop (start + length (kept format (meaning selection) (drop start (now (file .entry))))) (now (out .entry))) ⌝ }
+{
+    bytes::copy(&file[..start], out);
+    let mut len = start;
+    let mut at = start;
+    loop {
+        match gdb_read::head_at(format, file, at) {
+            FrameStep::End => {
+                return len;
+            }
+            FrameStep::Refused(_) => {
+                return len;
+            }
+            FrameStep::Frame { head, next } => {
+                if is_selected(selection, head.tracepoint) {
+                    bytes::copy(&file[at..next], &mut out[len..]);
+                    len += next - at;
+                }
+                at = next;
+            }
+        }
+    }
+}
+
+// The opening of `file`, then its frames that the selection selects.
+pub fn cut(settings: Settings, file: &[u8], selection: Selection, out: &mut [u8]) -> EditAnswer
+    ensures { λ r. ⌜ Lent (cutOf settings selection (now (file .entry))) (now (out .entry)) (editAnswer r) (now (out .exit)) ⌝ }
+{
+    if !is_valid(selection) {
+        return EditAnswer::Refused(BAD_ARGUMENT);
+    }
+    match gdb_read::read(settings, file) {
+        Reading::Refused(n) => EditAnswer::Refused(n),
+        Reading::Accepted(o) => {
+            let format = o.format;
+            let start = o.start;
+            if !has_room(format, file, selection, start, out.len()) {
+                return EditAnswer::Refused(NO_ROOM);
+            }
+            EditAnswer::Written(write_cut(format, file, selection, start, out))
+        }
+    }
+}

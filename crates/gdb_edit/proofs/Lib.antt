@@ -1,4 +1,0 @@
-pub mod Ranges
-pub mod Outputs
-pub mod Walk
-pub mod Cuts

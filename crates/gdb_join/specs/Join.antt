@@ -1,0 +1,35 @@
+-- A join: on traces, and the bytes that it gives of two files.
+-- Assumes nothing: these are definitions.
+use mathlib.Core.Bool.{cond}
+use Prim.Native.Nat.{ℕ}
+use mathlib.Core.List.{List, [], _++_}
+use lib.ListN.{length}
+use lib.Dec.{leb}
+use Rattle.refusals.specs.Refusal.{limit, tooLong, openingsDiffer}
+use Rattle.fields.specs.Word.{sameBytes}
+use Rattle.fields.specs.Answer.{Answer, accepted, refused, next}
+use Rattle.gdb_format.specs.Trace.{Trace, withFrames, opening, encode}
+use Rattle.gdb_format.specs.Decode.{read}
+use Rattle.gdb_format.specs.declared.Settings.{Settings}
+
+-- ---- traces
+
+-- the common opening, the first trace's frames, then the second's
+abbrev pub join : Trace → Trace → Trace
+join t u = withFrames t (t .frames ++ u .frames)
+
+-- the *bare opening*: the opening alone, without frames
+abbrev pub bare : Trace → Trace
+bare t = withFrames t []
+
+-- ---- the bytes of a join, where the output has room
+
+abbrev pub within : List ℕ → Answer (List ℕ)
+within b = cond (leb (length b) limit) (accepted b) (refused tooLong)
+
+-- the first file's faults, the second's, 13 for openings that differ, 1 for the result
+unfoldable pub joinOf : Settings → List ℕ → List ℕ → Answer (List ℕ)
+unfolding encode opening
+joinOf s a b =
+    next (read s a) (λ p. next (read s b) (λ q.
+    cond (sameBytes (opening (p .1 .lines)) (opening (q .1 .lines))) (within (encode (p .0) (join (p .1) (q .1)))) (refused openingsDiffer)))

@@ -1,0 +1,179 @@
+-- What `joinOf` gives in each case that the code tells apart, and what an accepted join tells of its two files.
+-- Assumes nothing.
+use mathlib.Core.Path.{_≡_, refl, sym, ap, ap₂, _∙_, subst}
+use mathlib.Core.Bool.{Bool, true, false, cond}
+use Prim.Native.Nat.{ℕ, _+_, _-_, _<_, _≤_}
+use native.Mathlib.Omega.{arith}
+use mathlib.Core.List.{List, _++_, append-assoc}
+use lib.ListN.{length, take, drop, length-append, length-drop}
+use lib.Dec.{leb}
+use borrow.Author.Tests.{le-leb, lt-leb, leb-true}
+use Rattle.refusals.specs.Refusal.{limit, tooLong, openingsDiffer}
+use Rattle.fields.specs.Lists.{flat, flat-append}
+use Rattle.fields.specs.Word.{sameBytes, same-bytes, bytes-same}
+use Rattle.fields.specs.Number.{Bytes}
+use Rattle.fields.specs.Answer.{Answer, accepted, refused, next-inv, refused-inv, cond-inv, never, accepted-one}
+use Rattle.gdb_format.specs.Trace.{Trace, opening, putFrame, encode}
+use Rattle.gdb_format.specs.Settings.{settingsOf}
+use Rattle.gdb_format.specs.Decode.{read}
+use Rattle.gdb_format.specs.Exactness.{read-exactness}
+use Rattle.gdb_format.specs.declared.Settings.{Settings}
+use Rattle.gdb_format.specs.declared.Format.{Format}
+use Rattle.gdb_read.specs.Steps.{Summary, summaryOf, readSeen}
+use Rattle.gdb_frames.specs.File.{File, file-of, frames-behind, start-within, opening-front, summary-inv}
+use Rattle.gdb_join.specs.Join.{join, within, joinOf}
+use Rattle.gdb_join.specs.Joined.{pairSeen}
+
+pub refused-same : {A : Type 0} {i j : ℕ} → _≡_ {A = Answer A} (refused i) (refused j) → j ≡ i
+refused-same e = cc
+
+-- ---- refusals of the files
+
+module _ (s : Settings) (a b : List ℕ) where
+  pub join-first : (n : ℕ) → refused n ≡ readSeen (read s a) → joinOf s a b ≡ refused n
+  unfolding joinOf
+  join-first n e = rw (refused-inv n (read s a) (λ r. summaryOf (r .0) (r .1)) e)
+
+  join-next : (f : Format) (t : Trace) (n : ℕ) → read s a ≡ accepted (f, t) → read s b ≡ refused n → joinOf s a b ≡ refused n
+  unfolding joinOf
+  join-next f t n e g = rw (e, g)
+
+  pub join-second : (m : Summary) (n : ℕ) → accepted m ≡ readSeen (read s a) → refused n ≡ readSeen (read s b) → joinOf s a b ≡ refused n
+  join-second m n e g =
+      let q = summary-inv m (read s a) e in
+      join-next (q .0 .0) (q .0 .1) n (q .1) (refused-inv n (read s b) (λ r. summaryOf (r .0) (r .1)) g)
+
+  -- the pair's refusal is the join's
+  pub pair-of-refused : (n : ℕ) → joinOf s a b ≡ refused n → refused n ≡ pairSeen s a b
+  pair-of-refused n e = rw e
+
+-- ---- both files were read
+
+-- their traces, which have one format
+pub record Both (s : Settings) (a b : List ℕ) (f : Format) (t u : Trace) : Type 0 where
+  pub first-read : read s a ≡ accepted (f, t)
+  pub second-read : read s b ≡ accepted (f, u)
+  pub first-file : File f a t
+  pub second-file : File f b u
+
+one-format : (s : Settings) (b : List ℕ) (f g : Format) (u : Trace) → Bytes b → settingsOf s ≡ accepted f → read s b ≡ accepted (g, u) → g ≡ f
+one-format s b f g u h ok e = accepted-one (sym (((read-exactness s b g u h) .0 e) .0) ∙ ok)
+
+both-read : (s : Settings) (a b : List ℕ) (f g : Format) (t u : Trace) → Bytes a → Bytes b → read s a ≡ accepted (f, t) → read s b ≡ accepted (g, u) → (g ≡ f) × Both s a b f t u
+both-read s a b f g t u ha hb p q =
+    let i : g ≡ f = one-format s b f g u hb (((read-exactness s a f t ha) .0 p) .0) q in
+    let r : read s b ≡ accepted (f, u) = q ∙ ap (λ x. accepted (x, u)) i in
+    (i, record { first-read = p; second-read = r; first-file = file-of s a f t ha p; second-file = file-of s b f u hb r })
+
+module _ (s : Settings) (a b : List ℕ) (ha : Bytes a) (hb : Bytes b) (m k : Summary) (e : accepted m ≡ readSeen (read s a)) (g : accepted k ≡ readSeen (read s b)) where
+  -- a fact of both traces, told of what the two readings answer
+  pub both-told : (P : Summary → Summary → Type 0) → ((f : Format) (t u : Trace) → Both s a b f t u → P (summaryOf f t) (summaryOf f u)) → P m k
+  both-told P base =
+      let p = summary-inv m (read s a) e in
+      let q = summary-inv k (read s b) g in
+      let r = both-read s a b (p .0 .0) (q .0 .0) (p .0 .1) (q .0 .1) ha hb (p .1) (q .1) in
+      let w : summaryOf (p .0 .0) (q .0 .1) ≡ k = ap (λ f. summaryOf f (q .0 .1)) (sym (r .0)) ∙ q .2 in
+      subst (λ x. P x k) (p .2) (subst (P (summaryOf (p .0 .0) (p .0 .1))) w (base (p .0 .0) (p .0 .1) (q .0 .1) (r .1)))
+
+-- ---- the join of two such files
+
+differ : (x y : List ℕ) (w : Bool) → (x ≡ y → ⊥) → sameBytes x y ≡ w → w ≡ false
+differ x y true h e = absurd (h (same-bytes x y e))
+differ x y false h e = refl
+
+module _ (s : Settings) (a b : List ℕ) (f : Format) (t u : Trace) (i : Both s a b f t u) where
+  pub joined-bytes : encode f (join t u) ≡ a ++ drop (length (opening (u .lines))) b
+  unfolding encode
+  joined-bytes =
+      ap (λ x. opening (t .lines) ++ x) (flat-append (putFrame f) (t .frames) (u .frames))
+      ∙ sym (append-assoc (opening (t .lines)) (flat (putFrame f) (t .frames)) (flat (putFrame f) (u .frames)))
+      ∙ ap₂ (λ x z. x ++ z) (i .first-file .laid-out) (sym (frames-behind f b u (i .second-file)))
+
+  joined-long : length (a ++ drop (length (opening (u .lines))) b) ≡ length a + (length b - length (opening (u .lines)))
+  joined-long = omega (arith, length-append a (drop (length (opening (u .lines))) b), length-drop (length (opening (u .lines))) b)
+
+  open-join : joinOf s a b ≡ cond (sameBytes (opening (t .lines)) (opening (u .lines))) (within (a ++ drop (length (opening (u .lines))) b)) (refused openingsDiffer)
+  unfolding joinOf
+  open-join =
+      rw (i .first-read, i .second-read)
+      (ap (λ x. cond (sameBytes (opening (t .lines)) (opening (u .lines))) (within x) (refused openingsDiffer)) joined-bytes)
+
+  pub join-differs : (take (length (opening (t .lines))) a ≡ take (length (opening (u .lines))) b → ⊥) → joinOf s a b ≡ refused openingsDiffer
+  join-differs h =
+      let n : opening (t .lines) ≡ opening (u .lines) → ⊥ = λ e. h (opening-front f a t (i .first-file) ∙ e ∙ sym (opening-front f b u (i .second-file))) in
+      open-join ∙ rw (differ (opening (t .lines)) (opening (u .lines)) _ n refl)
+
+  module _ (e : take (length (opening (t .lines))) a ≡ take (length (opening (u .lines))) b) where
+    one-opening : opening (t .lines) ≡ opening (u .lines)
+    one-opening = sym (opening-front f a t (i .first-file)) ∙ e ∙ opening-front f b u (i .second-file)
+
+    pub join-long : limit < length a + (length b - length (opening (u .lines))) → joinOf s a b ≡ refused tooLong
+    join-long h = open-join ∙ rw (one-opening, bytes-same (opening (u .lines)), lt-leb (length (a ++ drop (length (opening (u .lines))) b)) limit (omega (arith, joined-long)))
+
+    pub join-gives : length a + (length b - length (opening (u .lines))) ≤ limit → joinOf s a b ≡ accepted (a ++ drop (length (opening (u .lines))) b)
+    join-gives h = open-join ∙ rw (one-opening, bytes-same (opening (u .lines)), le-leb (length (a ++ drop (length (opening (u .lines))) b)) limit (omega (arith, joined-long)))
+
+  pub pair-gives : (c : List ℕ) → joinOf s a b ≡ accepted c → accepted (summaryOf f t, summaryOf f u) ≡ pairSeen s a b
+  pair-gives c e = rw (e, i .first-read, i .second-read)
+
+-- ---- the same by what the readings answer, as the code tests it
+
+module _ (s : Settings) (a b : List ℕ) (ha : Bytes a) (hb : Bytes b) (m k : Summary) (e : accepted m ≡ readSeen (read s a)) (g : accepted k ≡ readSeen (read s b)) where
+  pub first-short : length a ≤ limit
+  first-short =
+      both-told s a b ha hb m k e g (λ m k. length a ≤ limit) (λ f t u i. rw (i .first-file .laid-out) at (i .first-file .fits .length-fits))
+
+  pub first-start : m .start ≤ length a
+  first-start = both-told s a b ha hb m k e g (λ m k. m .start ≤ length a) (λ f t u i. start-within f a t (i .first-file))
+
+  pub second-start : k .start ≤ length b
+  second-start = both-told s a b ha hb m k e g (λ m k. k .start ≤ length b) (λ f t u i. start-within f b u (i .second-file))
+
+  pub pair-differs : (take (m .start) a ≡ take (k .start) b → ⊥) → refused openingsDiffer ≡ pairSeen s a b
+  pair-differs =
+      both-told s a b ha hb m k e g (λ m k. (take (m .start) a ≡ take (k .start) b → ⊥) → refused openingsDiffer ≡ pairSeen s a b)
+      (λ f t u i h. pair-of-refused s a b openingsDiffer (join-differs s a b f t u i h))
+
+  pub pair-long : take (m .start) a ≡ take (k .start) b → limit < length a + (length b - k .start) → refused tooLong ≡ pairSeen s a b
+  pair-long =
+      both-told s a b ha hb m k e g (λ m k. take (m .start) a ≡ take (k .start) b → limit < length a + (length b - k .start) → refused tooLong ≡ pairSeen s a b)
+      (λ f t u i h l. pair-of-refused s a b tooLong (join-long s a b f t u i h l))
+
+  pub pair-sound : take (m .start) a ≡ take (k .start) b → length a + (length b - k .start) ≤ limit → accepted (m, k) ≡ pairSeen s a b
+  pair-sound =
+      both-told s a b ha hb m k e g (λ m k. take (m .start) a ≡ take (k .start) b → length a + (length b - k .start) ≤ limit → accepted (m, k) ≡ pairSeen s a b)
+      (λ f t u i h l. pair-gives s a b f t u i _ (join-gives s a b f t u i h l))
+
+-- ---- from the pair's answer to the join's
+
+-- an accepted join tells its files
+pub join-inv : (s : Settings) (a b c : List ℕ) → Bytes a → Bytes b → joinOf s a b ≡ accepted c
+    → (f : Format) × (t : Trace) × (u : Trace) × Both s a b f t u × (sameBytes (opening (t .lines)) (opening (u .lines)) ≡ true) × (length (encode f (join t u)) ≤ limit) × (encode f (join t u) ≡ c)
+unfolding joinOf
+join-inv s a b c ha hb e =
+    let p = next-inv (read s a) _ e in
+    let q = next-inv (read s b) _ (p .2) in
+    let r = both-read s a b (p .0 .0) (q .0 .0) (p .0 .1) (q .0 .1) ha hb (p .1) (q .1) in
+    let v = cond-inv (sameBytes (opening (p .0 .1 .lines)) (opening (q .0 .1 .lines))) (within (encode (p .0 .0) (join (p .0 .1) (q .0 .1)))) openingsDiffer (q .2) in
+    let w = cond-inv (leb (length (encode (p .0 .0) (join (p .0 .1) (q .0 .1)))) limit) (accepted (encode (p .0 .0) (join (p .0 .1) (q .0 .1)))) tooLong (v .1) in
+    (p .0 .0, p .0 .1, q .0 .1, r .1, v .0, leb-true _ limit (w .0), accepted-one (w .1))
+
+pub pair-refused : (s : Settings) (a b : List ℕ) (n : ℕ) → Bytes a → Bytes b → refused n ≡ pairSeen s a b → joinOf s a b ≡ refused n
+pair-refused s a b n ha hb e = by (joinOf s a b) refl
+  where
+    by : (x : Answer (List ℕ)) → joinOf s a b ≡ x → x ≡ refused n
+    by (accepted c) g = let q = join-inv s a b c ha hb g in never (e ∙ sym (pair-gives s a b (q .0) (q .1) (q .2) (q .3) c g))
+    by (refused k) g = ap refused (refused-same (e ∙ sym (pair-of-refused s a b k g)))
+
+-- two files whose pair is sound: the join is the first file and the second's frames
+pub pair-joins : (s : Settings) (a b : List ℕ) (m k : Summary) → Bytes a → Bytes b → accepted (m, k) ≡ pairSeen s a b
+    → (joinOf s a b ≡ accepted (a ++ drop (k .start) b)) × (length (a ++ drop (k .start) b) ≡ length a + (length b - k .start)) × (k .start ≤ length b)
+pair-joins s a b m k ha hb e =
+    let p = next-inv (joinOf s a b) _ (sym e) in
+    let q = join-inv s a b (p .0) ha hb (p .1) in
+    let i : _≡_ {A = Summary × Summary} (m, k) (summaryOf (q .0) (q .1), summaryOf (q .0) (q .2)) = accepted-one (e ∙ sym (pair-gives s a b (q .0) (q .1) (q .2) (q .3) (p .0) (p .1))) in
+    subst (λ (z : Summary). (joinOf s a b ≡ accepted (a ++ drop (z .start) b)) × (length (a ++ drop (z .start) b) ≡ length a + (length b - z .start)) × (z .start ≤ length b)) (sym (ap (λ (z : Summary × Summary). z .1) i)) (
+      p .1 ∙ ap accepted (sym (q .6) ∙ joined-bytes s a b (q .0) (q .1) (q .2) (q .3)),
+      joined-long s a b (q .0) (q .1) (q .2) (q .3),
+      start-within (q .0) b (q .2) (q .3 .second-file),
+    )

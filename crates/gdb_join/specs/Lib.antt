@@ -1,0 +1,5 @@
+pub mod Join
+pub mod Joined
+pub mod JoinTraces
+pub mod JoinLaws
+pub mod Numbers
