@@ -29,8 +29,8 @@ use Rattle.gdb_pair.specs.Numbers.{pairNumbers, pair-place-numbers, pair-variab
 use Rattle.dat_format.specs.Numbers.{datNumbers}
 use Rattle.tracedat.specs.Questions.{summed, cpuRange}
 use Rattle.tracedat.specs.Numbers.{rangeNumbers, summary-numbers, cpu-range-numbers}
-use Rattle.trace_c.specs.Flat.{flatCount, flatPlace, flatLine, flatBlock, flatValue, flatLength, flatPair}
-use Rattle.trace_c.specs.FlatDat.{flatSummary, flatRange}
+use Rattle.trace_flat.specs.Flat.{flatCount, flatPlace, flatLine, flatBlock, flatValue, flatLength, flatPair}
+use Rattle.trace_flat.specs.FlatDat.{flatSummary, flatRange}
 
 -- a call with the answer x, which `flat` makes a struct
 abbrev pub Told : {A B : Type 0} → (Answer A → B) → (B → ℕ) → Answer A → Type 0
