@@ -4,5 +4,4 @@ pub mod DecimalLaws
 pub mod Rows
 pub mod Outcome
 pub mod Table
-pub mod Cases
 pub mod Numbers

@@ -63,7 +63,7 @@ abbrev row : ℕ → ℕ → ℕ → Row
 row n at k = record { tracepoint = n; place = at; size = k }
 
 -- H, in document 01's bytes
-abbrev h : List ℕ
+abbrev pub h : List ℕ
 h = 0x7F ∷ 0x54 ∷ 0x52 ∷ 0x41 ∷ 0x43 ∷ 0x45 ∷ 0x30 ∷ 0x0A ∷ []
 
 -- H 0A, and then the frames

@@ -1,3 +1,4 @@
 pub mod Cases
+pub mod ListingCases
 pub mod Limit
 pub mod DatCases

@@ -1,12 +1,13 @@
--- Decimal numbers and whole listings, worked out.
+-- Decimal numbers and whole listings, worked out: document 01's two-register case, no frames, and a refusal.
 -- Assumes nothing.
 use mathlib.Core.Path.{_≡_, refl}
 use Prim.Native.Nat.{ℕ}
 use mathlib.Core.List.{List, [], _∷_, _++_}
 use Rattle.fields.specs.Lists.{Each}
-use Rattle.gdb_format.specs.Trace.{head, opening}
+use Rattle.gdb_format.specs.Trace.{opening}
 use Rattle.gdb_format.specs.Decode.{read}
+use Rattle.paper_cases.specs.Cases.{h}
 use Rattle.gdb_listing.specs.Text.{decimal, ended, lineOf, text, listed}
 
 -- ---- numbers
 
@@ -26,7 +27,7 @@ numbers-hold = (refl, (refl, (refl, (refl, tt))))
 
 -- document 01's two-register case, little-endian: `R 2`, one frame of the bytes R AA BB
 abbrev pub twoRegisters : List ℕ
-twoRegisters = head ++ 0x52 ∷ 0x20 ∷ 0x32 ∷ 0x0A ∷ 0x0A ∷ 1 ∷ 0 ∷ 3 ∷ 0 ∷ 0 ∷ 0 ∷ 0x52 ∷ 0xAA ∷ 0xBB ∷ []
+twoRegisters = h ++ 0x52 ∷ 0x20 ∷ 0x32 ∷ 0x0A ∷ 0x0A ∷ 1 ∷ 0 ∷ 3 ∷ 0 ∷ 0 ∷ 0 ∷ 0x52 ∷ 0xAA ∷ 0xBB ∷ []
 
 -- `frames 1`, `1 19 3`
 abbrev pub oneFrame : List ℕ
@@ -43,7 +44,7 @@ abbrev pub badStart : List ℕ
 badStart = 0x72 ∷ 0x65 ∷ 0x66 ∷ 0x75 ∷ 0x73 ∷ 0x65 ∷ 0x64 ∷ 0x20 ∷ 0x33 ∷ 0x0A ∷ []
 
 abbrev pub listings : List (List ℕ × List ℕ)
-listings = (twoRegisters, oneFrame) ∷ (head ++ 0x0A ∷ [], noFrame) ∷ ([], badStart) ∷ []
+listings = (twoRegisters, oneFrame) ∷ (h ++ 0x0A ∷ [], noFrame) ∷ ([], badStart) ∷ []
 
 pub listings-hold : Each (λ r. text (listed (r .0)) ≡ r .1) listings
 unfolding read opening listed lineOf ended decimal
