@@ -20,7 +20,7 @@ use Rattle.gdb_format.specs.Layout.{BlockFits, FrameFits}
 use Rattle.gdb_format.specs.Decode.{read}
 use Rattle.gdb_format.specs.declared.Settings.{Settings}
 use Rattle.gdb_format.specs.declared.Format.{Format}
-use Rattle.gdb_read.specs.Steps.{Carried, carriedBy}
+use Rattle.gdb_data.specs.Blocks.{Carried, carriedBy}
 use Rattle.gdb_frames.specs.Places.{framesAt, blocksAt, nth}
 use Rattle.gdb_frames.specs.Questions.{asked, Handed}
 use Rattle.gdb_frames.specs.File.{file-of}

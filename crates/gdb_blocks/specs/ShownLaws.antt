@@ -19,7 +19,7 @@ use Rattle.gdb_format.specs.Trace.{Block, registers, memory, variable, Frame, T
 use Rattle.gdb_format.specs.Decode.{read}
 use Rattle.gdb_format.specs.declared.Settings.{Settings}
 use Rattle.gdb_format.specs.declared.Format.{Format}
-use Rattle.gdb_read.specs.Steps.{carriedBy, blockSeen}
+use Rattle.gdb_data.specs.Blocks.{carriedBy, blockSeen}
 use Rattle.gdb_frames.specs.Places.{placed, framesAt, blocksAt, nth, part}
 use Rattle.gdb_frames.specs.Questions.{asked}
 use Rattle.gdb_frames.specs.File.{File, file-of}

@@ -1,8 +1,8 @@
 // What the answers are printed as.
+use gdb_data::BlockKind;
+use gdb_data::BlockRecord;
 use gdb_format::LineKind;
 use gdb_frames::PlaceAnswer;
-use gdb_read::BlockKind;
-use gdb_read::BlockRecord;
 use libc::STDOUT_FILENO;
 
 pub(crate) fn text(t: &[u8]) {

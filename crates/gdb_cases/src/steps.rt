@@ -2,11 +2,11 @@
 use crate::show;
 use crate::table;
 use crate::table::Number;
+use gdb_data::BlockStep;
 use gdb_format::Checked;
 use gdb_format::Format;
 use gdb_format::RegisterSize;
 use gdb_format::Settings;
-use gdb_read::BlockStep;
 use gdb_read::FrameStep;
 use gdb_read::Reading;
 
@@ -76,7 +76,7 @@ fn at(format: Format, s: &[u8], t: &[u8]) {
     let size = size_of(table::number_after(t, place.next));
     let k = place.value as usize;
     match table::byte(t, 0) {
-        b'd' => block(gdb_read::block_at(format, size, s, k)),
+        b'd' => block(gdb_data::block_at(format, size, s, k)),
         b'h' => frame(gdb_read::head_at(format, s, k)),
         b'w' => frame(gdb_read::frame_at(format, size, s, k)),
         _ => show::text(b" no such question"),

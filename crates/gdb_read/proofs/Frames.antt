@@ -21,7 +21,8 @@ use Rattle.gdb_format.specs.Decode.{block, blocks, frameHead, frame}
 use Rattle.gdb_format.specs.ExactBlock.{exact-block, shorter-block}
 use Rattle.gdb_format.specs.ExactFrame.{exact-head, takes-head}
 use Rattle.gdb_format.specs.declared.Format.{Format}
-use Rattle.gdb_read.specs.Steps.{Row, headSeen, frameSeen, blocksFill}
+use Rattle.gdb_data.specs.Blocks.{blocksFill}
+use Rattle.gdb_read.specs.Steps.{Row, headSeen, frameSeen}
 
 -- ---- the head
 

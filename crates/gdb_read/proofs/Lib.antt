@@ -1,4 +1,3 @@
-pub mod Blocks
 pub mod Frames
 pub mod Walks
 pub mod Whole

@@ -1,4 +1,4 @@
--- A turn of a walk to the end: over a frame's blocks, and over a file's frames, which are counted.
+-- A turn of the walk over a file's frames, which are counted.
 -- Assumes nothing.
 use mathlib.Core.Path.{_≡_, refl, sym, ap}
 use mathlib.Core.Option.{Option, none, some}
@@ -10,33 +10,11 @@ use lib.ListN.{length, drop}
 use Rattle.fields.specs.Answer.{Answer, accepted, refused, next}
 use Rattle.fields.specs.Reader.{toEnd, stepAt}
 use Rattle.fields.specs.At.{walk-end, walk-refused, walk-more}
-use Rattle.gdb_format.specs.Trace.{Block, Frame}
-use Rattle.gdb_format.specs.Decode.{block, frame, frames}
-use Rattle.gdb_format.specs.ExactBlock.{takes-block}
+use Rattle.gdb_format.specs.Trace.{Frame}
+use Rattle.gdb_format.specs.Decode.{frame, frames}
 use Rattle.gdb_format.specs.ExactFrame.{takes-frame}
 use Rattle.gdb_format.specs.declared.Format.{Format}
-use Rattle.gdb_read.specs.Steps.{blockPassed, blocksFill, Row, frameSeen}
-
--- ---- blocks
-
-fill-more : (x : Answer (List Block)) (b : Block) → next (next x (λ l. accepted (b ∷ l))) (λ l. accepted (tt {0})) ≡ next x (λ l. accepted (tt {0}))
-fill-more (accepted l) b = refl
-fill-more (refused n) b = refl
-
-module _ (f : Format) (size : Option ℕ) (d : List ℕ) (at : ℕ) where
-  pub fill-end : accepted none ≡ stepAt blockPassed (block f size) d at → accepted tt ≡ blocksFill f size (drop at d)
-  fill-end e = rw (walk-end blockPassed (block f size) (takes-block f size) d at (sym e))
-
-  pub fill-refused : (n : ℕ) → refused n ≡ stepAt blockPassed (block f size) d at → refused n ≡ blocksFill f size (drop at d)
-  fill-refused n e = rw (walk-refused blockPassed (block f size) (takes-block f size) d at n (sym e))
-
-  pub fill-turn : (m : ℕ) → accepted (some (tt, m)) ≡ stepAt blockPassed (block f size) d at
-      → (at < m) × (m ≤ length d) × (blocksFill f size (drop m d) ≡ blocksFill f size (drop at d))
-  fill-turn m e =
-      let t = walk-more blockPassed (block f size) (takes-block f size) d at tt m (sym e) in
-      (t .later, t .within, sym (rw (t .more) (fill-more (toEnd (block f size) (drop m d)) (t .element))))
-
--- ---- frames
+use Rattle.gdb_read.specs.Steps.{Row, frameSeen}
 
 -- n frames, and those of the rest
 abbrev pub countedFrom : ℕ → Answer (List Frame) → Answer ℕ

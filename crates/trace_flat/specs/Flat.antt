@@ -11,7 +11,7 @@ use Rattle.fields.specs.Answer.{Answer, accepted, refused}
 use Rattle.gdb_format.specs.declared.Settings.{Settings}
 use Rattle.gdb_format.specs.declared.LineKind.{LineKind}
 use Rattle.gdb_format.specs.declared.LineKind.the-variants as kind
-use Rattle.gdb_read.specs.Steps.{Carried, registers, memory, variable}
+use Rattle.gdb_data.specs.Blocks.{Carried, registers, memory, variable}
 use Rattle.fields.specs.Output.{answer, exit}
 use Rattle.gdb_cut.specs.declared.Selection as edit
 use Rattle.gdb_pair.specs.Pair.{Side, first, second}

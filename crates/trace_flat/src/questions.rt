@@ -1,18 +1,18 @@
 // The answers about a GDB trace as C has them.
 ghost use mathlib.Core.Path.{_≡_};
-ghost use Rattle.gdb_read.specs.Steps.{kindMeaning};
+ghost use Rattle.gdb_data.specs.Blocks.{kindMeaning};
 ghost use Rattle.gdb_frames.specs.Questions.{countAnswer, placeAnswer, lineAnswer};
 ghost use Rattle.gdb_blocks.specs.Search.{blockAnswer, valueAnswer};
 ghost use Rattle.gdb_table.specs.Records.{tableAnswer};
 ghost use Rattle.trace_flat.specs.Flat.{flatCount, flatPlace, kindNumber, flatLine, shownBlock, flatBlock, flatValue};
 use gdb_blocks::BlockAnswer;
 use gdb_blocks::ValueAnswer;
+use gdb_data::BlockKind;
+use gdb_data::BlockRecord;
 use gdb_format::LineKind;
 use gdb_frames::CountAnswer;
 use gdb_frames::LineAnswer;
 use gdb_frames::PlaceAnswer;
-use gdb_read::BlockKind;
-use gdb_read::BlockRecord;
 use gdb_table::TableAnswer;
 
 #[repr(C)]

@@ -25,7 +25,7 @@ use Rattle.gdb_format.specs.Trace as trace
 use Rattle.gdb_format.specs.Decode.{registerBlock, memoryBlock, variableBlock, blockOf, block}
 use Rattle.gdb_format.specs.ExactBlock.{takes-block}
 use Rattle.gdb_format.specs.declared.Format.{Format}
-use Rattle.gdb_read.specs.Steps.{Carried, registers, memory, variable, carriedBy, blockSeen, kindAt, blockPassed, contentEnd}
+use Rattle.gdb_data.specs.Blocks.{Carried, registers, memory, variable, carriedBy, blockSeen, kindAt, blockPassed, contentEnd}
 
 -- ---- where the content that starts at `at` ends
 

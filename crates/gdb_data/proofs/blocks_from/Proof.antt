@@ -1,15 +1,15 @@
--- `gdb_read::blocks_from` meets its contract. The loop's invariant: what is left is filled just where the whole is.
+-- `gdb_data::blocks_from` meets its contract. The loop's invariant: what is left is filled just where the whole is.
 -- Assumes nothing.
 use mathlib.Core.Path.{_≡_, refl, sym, ap, _∙_}
 use Prim.Native.Nat.{_-_}
 use lib.ListN.{length, drop}
 use Rattle.gdb_format.specs.Opening.{sizeIn}
-use Rattle.gdb_read.specs.Steps.{endMeaning, blocksFill}
-use Rattle.gdb_read.proofs.Walks.{fill-end, fill-refused, fill-turn}
+use Rattle.gdb_data.specs.Blocks.{endMeaning, blocksFill}
+use Rattle.gdb_data.proofs.Fills.{fill-end, fill-refused, fill-turn}
 use borrow.Author.Needs.{needs}
 use native.Mathlib.Omega.{arith}
-use Rattle.gdb_read.proofs.blocks_from.Statement.{statement}
-use Rattle.gdb_read.proofs.blocks_from.Tie as tie
+use Rattle.gdb_data.proofs.blocks_from.Statement.{statement}
+use Rattle.gdb_data.proofs.blocks_from.Tie as tie
 
 abbrev Inv-loop : tie.InvT-loop
 Inv-loop format size d from at₀ at = blocksFill format (sizeIn size) (drop at d) ≡ blocksFill format (sizeIn size) (drop from d)

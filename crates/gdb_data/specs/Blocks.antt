@@ -1,0 +1,83 @@
+-- What the steps over a frame's blocks answer, in the paper's terms.
+-- Assumes nothing: these are definitions.
+use mathlib.Core.Bool.{cond}
+use mathlib.Core.Option.{Option, none, some}
+use Prim.Native.Nat.{ℕ, _+_, _-_}
+use mathlib.Core.List.{List}
+use lib.ListN.{length, getD}
+use lib.Dec.{eqb}
+use lib.IntN.{ℤ}
+use Rattle.fields.specs.Number.{wordAt}
+use Rattle.fields.specs.Signed.{signed64}
+use Rattle.fields.specs.Answer.{Answer, accepted, refused, next}
+use Rattle.fields.specs.Reader.{toEnd}
+use Rattle.gdb_format.specs.Trace.{Block}
+use Rattle.gdb_format.specs.Trace as trace
+use Rattle.gdb_format.specs.Decode.{block}
+use Rattle.gdb_format.specs.declared.Format.{Format}
+use Rattle.gdb_data.specs.declared.BlockKind.{BlockKind}
+use Rattle.gdb_data.specs.declared.BlockKind.the-variants.{Registers, Memory, Variable}
+use Rattle.gdb_data.specs.declared.BlockRecord.{BlockRecord}
+use Rattle.gdb_data.specs.declared.BlockStep.{BlockStep}
+use Rattle.gdb_data.specs.declared.BlockStep.the-variants as step
+use Rattle.gdb_data.specs.declared.BlockEnd.{BlockEnd}
+use Rattle.gdb_data.specs.declared.BlockEnd.the-variants as blockend
+use Rattle.gdb_data.specs.declared.Verdict.{Verdict}
+use Rattle.gdb_data.specs.declared.Verdict.the-variants as verdict
+
+-- what a block's kind goes with: for memory its address and length, for a variable its number and value
+pub data Carried : Type 0 where
+  registers : Carried
+  memory : ℕ → ℕ → Carried
+  variable : ℕ → ℤ → Carried
+
+abbrev pub carriedBy : Block → Carried
+carriedBy (trace.registers b) = registers
+carriedBy (trace.memory a b) = memory a (length b)
+carriedBy (trace.variable n v) = variable n v
+
+-- a block's record: the place of its letter, and its kind with what that kind carries
+abbrev pub blockSeen : ℕ → Block → ℕ × Carried
+blockSeen at b = (at, carriedBy b)
+
+-- what `BlockKind`, `BlockRecord` and `BlockStep` say
+abbrev pub kindMeaning : BlockKind → Carried
+kindMeaning Registers = registers
+kindMeaning (Memory m) = memory (m .address) (m .length)
+kindMeaning (Variable n v) = variable n v
+
+abbrev pub blockIn : BlockRecord → ℕ × Carried
+blockIn r = (r .place, kindMeaning (r .kind))
+
+abbrev pub blockMeaning : BlockStep → Answer (Option ((ℕ × Carried) × ℕ))
+blockMeaning step.End = accepted none
+blockMeaning (step.Block r m) = accepted (some (blockIn r, m))
+blockMeaning (step.Refused n) = refused n
+
+-- the kind of the block whose letter stands at `at`
+abbrev pub kindAt : Format → List ℕ → ℕ → Carried
+kindAt f d at =
+    cond (eqb (getD d at 0) 0x52) registers
+    (cond (eqb (getD d at 0) 0x4D) (memory (wordAt (f .order) 8 d (at + 1)) (wordAt (f .order) 2 d (at + 9)))
+    (variable (wordAt (f .order) 4 d (at + 1)) (signed64 (wordAt (f .order) 8 d (at + 5)))))
+
+-- of a block that is passed over nothing is told but where it ends
+abbrev pub blockPassed : ℕ → Block → Unit {0}
+blockPassed at b = tt
+
+abbrev pub endMeaning : BlockEnd → Answer (Option (Unit {0} × ℕ))
+endMeaning blockend.End = accepted none
+endMeaning (blockend.At m) = accepted (some (tt, m))
+endMeaning (blockend.Refused n) = refused n
+
+-- by the reading of a block's content, or of a piece of it, in data of length `end`
+abbrev pub contentEnd : {A : Type 0} → ℕ → Answer (A × List ℕ) → Answer (Option (Unit {0} × ℕ))
+contentEnd end x = next x (λ r. accepted (some (tt, end - length (r .1))))
+
+-- blocks fill the data exactly
+abbrev pub verdictMeaning : Verdict → Answer (Unit {0})
+verdictMeaning verdict.Sound = accepted tt
+verdictMeaning (verdict.Refused n) = refused n
+
+abbrev pub blocksFill : Format → Option ℕ → List ℕ → Answer (Unit {0})
+blocksFill f size d = next (toEnd (block f size) d) (λ bs. accepted tt)
