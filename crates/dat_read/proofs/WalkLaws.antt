@@ -10,6 +10,7 @@ use Rattle.fields.specs.Lists.{flat}
 use Rattle.fields.specs.Number.{Bytes}
 use Rattle.fields.specs.Answer.{Answer, accepted, refused}
 use Rattle.fields.specs.Reader.{seenAt}
+use Rattle.fields.specs.Given.{at-case}
 use Rattle.fields.specs.Got.{Got, not-read, got, seen}
 use Rattle.fields.specs.declared.Order.{Order}
 use Rattle.dat_format.specs.Header.{Opt, Ending, latency, flyrecord, Tail, Header, optionsWord, flyWord, putWord, putOpening, putSections, putTexts, putTail, putList, putOptions, putEnding, putRange, encode}
@@ -18,7 +19,16 @@ use Rattle.dat_format.specs.Decode.{opening, sections, texts, tail, header}
 use Rattle.dat_format.specs.ExactSections.{exact-opening, exact-sections, exact-texts}
 use Rattle.dat_format.specs.ExactTail.{exact-tail}
 use Rattle.dat_format.specs.Exactness.{exact-header}
+use Rattle.dat_read.specs.Steps.{openingMeaning, sectionsMeaning, textsMeaning, tailMeaning}
 use Rattle.dat_read.specs.Summary.{flagsSeen, sectionParts, textParts, bodyAt, bodyOf, tailParts, summary, summarySeen}
+use Rattle.dat_read.specs.declared.opening.OpeningStep.{OpeningStep}
+use Rattle.dat_read.specs.declared.opening.OpeningStep.the-variants as openingstep
+use Rattle.dat_read.specs.declared.sections.SectionsStep.{SectionsStep}
+use Rattle.dat_read.specs.declared.sections.SectionsStep.the-variants as sectionsstep
+use Rattle.dat_read.specs.declared.texts.TextsStep.{TextsStep}
+use Rattle.dat_read.specs.declared.texts.TextsStep.the-variants as textsstep
+use Rattle.dat_read.specs.declared.tail.TailStep.{TailStep}
+use Rattle.dat_read.specs.declared.tail.TailStep.the-variants as tailstep
 use Rattle.dat_read.specs.declared.summary.Part.{Part}
 use Rattle.dat_read.specs.declared.summary.Flags.{Flags}
 use Rattle.dat_read.specs.declared.summary.SectionParts.{SectionParts}
@@ -45,102 +55,145 @@ tail-place : (o : Order) (at : ℕ) (t : Tail) → at + length (putTail o t) ≡
 unfolding putTail
 tail-place o at t = tail-length o at (t .options) (t .ending)
 
+-- what is shown of a header, from what is shown of its parts
+summary-is : (len : ℕ) (h : Header) (f : Flags) (ps : SectionParts) (ts : TextParts) (tp : TailParts) (body : Part) (a b c end : ℕ)
+    → length (putOpening (h .opening)) ≡ a → a + length (putSections (h .opening .order) (h .sections)) ≡ b → b + length (putTexts (h .opening .order) (h .texts)) ≡ c → length (encode h) ≡ end
+    → flagsSeen 0 (h .opening) ≡ f → sectionParts (h .opening .order) a (h .sections) ≡ ps → textParts b (h .texts) ≡ ts → tailParts (h .opening .order) c (h .tail) ≡ tp
+    → body ≡ bodyOf (tp .ending) (tp .place) end len
+    → record { flags = f; sections = ps; texts = ts; options = tp .options; ending = tp .ending; body = body } ≡ summary len h
+unfolding summary
+summary-is len h f ps ts tp body a b c end ea eb ec en ef es et el e = rw (e, ← el, ea, eb, ec, en, ef, es, et)
+
 -- ---- the walk
 
-module _ (s : List ℕ) (hb : Bytes s) where
-  abbrev Answers : Answer (Summary × ℕ) → Type 0
-  Answers x = x ≡ seenAt (summarySeen (length s)) header s 0
+abbrev Answers : List ℕ → Answer (Summary × ℕ) → Type 0
+Answers s x = x ≡ seenAt (summarySeen (length s)) header s 0
 
-  pub bad-opening : (n : ℕ) → refused n ≡ seenAt flagsSeen opening s 0 → Answers (refused n)
+-- what was read up to a place, and what is shown of it
+pub record Opened (s : List ℕ) (f : Flags) (a : ℕ) : Type 0 where
+  pub bytes : Bytes s
+  pub got : Got opening OpeningFits putOpening s 0 a
+  pub shown : flagsSeen 0 (got .value) ≡ f
+
+abbrev orderIn : {s : List ℕ} {f : Flags} {a : ℕ} → Opened s f a → Order
+orderIn p = p .got .value .order
+
+pub record Sectioned (s : List ℕ) (f : Flags) (a : ℕ) (ps : SectionParts) (b : ℕ) : Type 0 where
+  pub opened : Opened s f a
+  pub got : Got (sections (orderIn opened)) SectionsFit (putSections (orderIn opened)) s a b
+  pub shown : sectionParts (orderIn opened) a (got .value) ≡ ps
+
+pub record Texted (s : List ℕ) (f : Flags) (a : ℕ) (ps : SectionParts) (b : ℕ) (ts : TextParts) (c : ℕ) : Type 0 where
+  pub sectioned : Sectioned s f a ps b
+  pub got : Got (texts (orderIn (sectioned .opened))) TextsFit (putTexts (orderIn (sectioned .opened))) s b c
+  pub shown : textParts b (got .value) ≡ ts
+
+abbrev cpusIn : {s : List ℕ} {f : Flags} {a : ℕ} {ps : SectionParts} {b : ℕ} {ts : TextParts} {c : ℕ} → Texted s f a ps b ts c → ℕ
+cpusIn t = t .got .value .cpus
+
+pub record Tailed (s : List ℕ) (f : Flags) (a : ℕ) (ps : SectionParts) (b : ℕ) (ts : TextParts) (c : ℕ) (tp : TailParts) (end : ℕ) : Type 0 where
+  pub texted : Texted s f a ps b ts c
+  pub got : Got (tail (orderIn (texted .sectioned .opened)) (cpusIn texted)) (TailFits (cpusIn texted)) (putTail (orderIn (texted .sectioned .opened))) s c end
+  pub shown : tailParts (orderIn (texted .sectioned .opened)) c (got .value) ≡ tp
+
+module _ (s : List ℕ) {r : OpeningStep} where
+  pub bad-opening : {n : ℕ} → r ≡ openingstep.Refused n → openingMeaning r ≡ seenAt flagsSeen opening s 0 → Answers s (refused n)
   unfolding header
-  bad-opening n e = rw (not-read flagsSeen opening s 0 n e)
+  bad-opening {n} e h = rw (not-read flagsSeen opening s 0 n (at-case openingMeaning e h))
 
-  abbrev pub Opened : Flags → ℕ → Type 0
-  Opened f a = (g : Got opening OpeningFits putOpening s 0 a) × (flagsSeen 0 (g .value) ≡ f)
+  pub opened : Bytes s → {f : Flags} {a : ℕ} → r ≡ openingstep.Found f a → openingMeaning r ≡ seenAt flagsSeen opening s 0 → Opened s f a
+  opened hb {f} {a} e h = let g = got exact-opening s hb 0 (omega arith) flagsSeen f a (at-case openingMeaning e h) in record { bytes = hb; got = g .0; shown = g .1 }
 
-  pub opened : (f : Flags) (a : ℕ) → accepted (f, a) ≡ seenAt flagsSeen opening s 0 → Opened f a
-  opened f a e = got exact-opening s hb 0 (omega arith) flagsSeen f a e
+module _ {s : List ℕ} {f : Flags} {a : ℕ} (p : Opened s f a) where
+  abbrev o : Order
+  o = orderIn p
 
-  module _ (f : Flags) (a : ℕ) (p : Opened f a) where
-    abbrev o : Order
-    o = p .0 .value .order
+  order-is : f .order ≡ o
+  order-is = ap (λ f. f .order) (sym (p .shown))
 
-    order-is : f .order ≡ o
-    order-is = ap (λ f. f .order) (sym (p .1))
+  -- what was seen under the flags' order was seen under the opening's
+  abbrev Seen : Order → Answer (SectionParts × ℕ) → Type 0
+  Seen o x = x ≡ seenAt (sectionParts o) (sections o) s a
 
-    -- what was seen under the flags' order was seen under the opening's
-    abbrev Seen : Order → Answer (SectionParts × ℕ) → Type 0
-    Seen o x = x ≡ seenAt (sectionParts o) (sections o) s a
+  pub bad-sections : {r : SectionsStep} {n : ℕ} → r ≡ sectionsstep.Refused n → Seen (f .order) (sectionsMeaning r) → Answers s (refused n)
+  unfolding header
+  bad-sections {r} {n} e h = rw (p .got .reads, not-read (sectionParts o) (sections o) s a n (subst (λ o. Seen o (refused n)) order-is (at-case sectionsMeaning e h)))
 
-    pub bad-sections : (n : ℕ) → Seen (f .order) (refused n) → Answers (refused n)
-    unfolding header
-    bad-sections n e = rw (p .0 .reads, not-read (sectionParts o) (sections o) s a n (subst (λ o. Seen o (refused n)) order-is e))
+  pub sectioned : {r : SectionsStep} {ps : SectionParts} {b : ℕ} → r ≡ sectionsstep.Found ps b → Seen (f .order) (sectionsMeaning r) → Sectioned s f a ps b
+  sectioned {r} {ps} {b} e h =
+      let g = got (exact-sections o) s (p .bytes) a (p .got .inside) (sectionParts o) ps b (subst (λ o. Seen o (accepted (ps, b))) order-is (at-case sectionsMeaning e h)) in
+      record { opened = p; got = g .0; shown = g .1 }
 
-    abbrev pub Sectioned : SectionParts → ℕ → Type 0
-    Sectioned ps b = (g : Got (sections o) SectionsFit (putSections o) s a b) × (sectionParts o a (g .value) ≡ ps)
+module _ {s : List ℕ} {f : Flags} {a : ℕ} {ps : SectionParts} {b : ℕ} (q : Sectioned s f a ps b) where
+  abbrev p : Opened s f a
+  p = q .opened
 
-    pub sectioned : (ps : SectionParts) (b : ℕ) → Seen (f .order) (accepted (ps, b)) → Sectioned ps b
-    sectioned ps b e = got (exact-sections o) s hb a (p .0 .inside) (sectionParts o) ps b (subst (λ o. Seen o (accepted (ps, b))) order-is e)
+  abbrev SeenTexts : Order → Answer (TextParts × ℕ) → Type 0
+  SeenTexts o x = x ≡ seenAt textParts (texts o) s b
 
-    module _ (ps : SectionParts) (b : ℕ) (q : Sectioned ps b) where
-      abbrev SeenTexts : Order → Answer (TextParts × ℕ) → Type 0
-      SeenTexts o x = x ≡ seenAt textParts (texts o) s b
+  pub bad-texts : {r : TextsStep} {n : ℕ} → r ≡ textsstep.Refused n → SeenTexts (f .order) (textsMeaning r) → Answers s (refused n)
+  unfolding header
+  bad-texts {r} {n} e h =
+      rw (p .got .reads, q .got .reads, not-read textParts (texts (orderIn p)) s b n (subst (λ o. SeenTexts o (refused n)) (order-is p) (at-case textsMeaning e h)))
 
-      pub bad-texts : (n : ℕ) → SeenTexts (f .order) (refused n) → Answers (refused n)
-      unfolding header
-      bad-texts n e = rw (p .0 .reads, q .0 .reads, not-read textParts (texts o) s b n (subst (λ o. SeenTexts o (refused n)) order-is e))
+  pub texted : {r : TextsStep} {ts : TextParts} {c : ℕ} → r ≡ textsstep.Found ts c → SeenTexts (f .order) (textsMeaning r) → Texted s f a ps b ts c
+  texted {r} {ts} {c} e h =
+      let g = got (exact-texts (orderIn p)) s (p .bytes) b (q .got .inside) textParts ts c (subst (λ o. SeenTexts o (accepted (ts, c))) (order-is p) (at-case textsMeaning e h)) in
+      record { sectioned = q; got = g .0; shown = g .1 }
 
-      abbrev pub Texted : TextParts → ℕ → Type 0
-      Texted ts c = (g : Got (texts o) TextsFit (putTexts o) s b c) × (textParts b (g .value) ≡ ts)
+module _ {s : List ℕ} {f : Flags} {a : ℕ} {ps : SectionParts} {b : ℕ} {ts : TextParts} {c : ℕ} (t : Texted s f a ps b ts c) where
+  abbrev q : Sectioned s f a ps b
+  q = t .sectioned
 
-      pub texted : (ts : TextParts) (c : ℕ) → SeenTexts (f .order) (accepted (ts, c)) → Texted ts c
-      texted ts c e = got (exact-texts o) s hb b (q .0 .inside) textParts ts c (subst (λ o. SeenTexts o (accepted (ts, c))) order-is e)
+  abbrev ot : Order
+  ot = orderIn (q .opened)
 
-      module _ (ts : TextParts) (c : ℕ) (t : Texted ts c) where
-        abbrev n : ℕ
-        n = t .0 .value .cpus
+  abbrev n : ℕ
+  n = cpusIn t
 
-        cpus-are : ts .cpus ≡ n
-        cpus-are = ap (λ t. t .cpus) (sym (t .1))
+  cpus-are : ts .cpus ≡ n
+  cpus-are = ap (λ t. t .cpus) (sym (t .shown))
 
-        abbrev SeenTail : Order → ℕ → Answer (TailParts × ℕ) → Type 0
-        SeenTail o n x = x ≡ seenAt (tailParts o) (tail o n) s c
+  abbrev SeenTail : Order → ℕ → Answer (TailParts × ℕ) → Type 0
+  SeenTail o n x = x ≡ seenAt (tailParts o) (tail o n) s c
 
-        seen-tail : (x : Answer (TailParts × ℕ)) → SeenTail (f .order) (ts .cpus) x → SeenTail o n x
-        seen-tail x e = subst (λ n. SeenTail o n x) cpus-are (subst (λ o. SeenTail o (ts .cpus) x) order-is e)
+  seen-tail : (x : Answer (TailParts × ℕ)) → SeenTail (f .order) (ts .cpus) x → SeenTail ot n x
+  seen-tail x e = subst (λ n. SeenTail ot n x) cpus-are (subst (λ o. SeenTail o (ts .cpus) x) (order-is (q .opened)) e)
 
-        pub bad-tail : (k : ℕ) → SeenTail (f .order) (ts .cpus) (refused k) → Answers (refused k)
-        unfolding header
-        bad-tail k e = rw (p .0 .reads, q .0 .reads, t .0 .reads, not-read (tailParts o) (tail o n) s c k (seen-tail (refused k) e))
+  pub bad-tail : {r : TailStep} {k : ℕ} → r ≡ tailstep.Refused k → SeenTail (f .order) (ts .cpus) (tailMeaning r) → Answers s (refused k)
+  unfolding header
+  bad-tail {r} {k} e h =
+      rw (q .opened .got .reads, q .got .reads, t .got .reads, not-read (tailParts ot) (tail ot n) s c k (seen-tail (refused k) (at-case tailMeaning e h)))
 
-        abbrev pub Tailed : TailParts → ℕ → Type 0
-        Tailed tp end = (g : Got (tail o n) (TailFits n) (putTail o) s c end) × (tailParts o c (g .value) ≡ tp)
+  pub tailed : {r : TailStep} {tp : TailParts} {end : ℕ} → r ≡ tailstep.Found tp end → SeenTail (f .order) (ts .cpus) (tailMeaning r) → Tailed s f a ps b ts c tp end
+  tailed {r} {tp} {end} e h =
+      let g = got (exact-tail ot n) s (q .opened .bytes) c (t .got .inside) (tailParts ot) tp end (seen-tail (accepted (tp, end)) (at-case tailMeaning e h)) in
+      record { texted = t; got = g .0; shown = g .1 }
 
-        pub tailed : (tp : TailParts) (end : ℕ) → SeenTail (f .order) (ts .cpus) (accepted (tp, end)) → Tailed tp end
-        tailed tp end e = got (exact-tail o n) s hb c (t .0 .inside) (tailParts o) tp end (seen-tail (accepted (tp, end)) e)
+module _ {s : List ℕ} {f : Flags} {a : ℕ} {ps : SectionParts} {b : ℕ} {ts : TextParts} {c : ℕ} {tp : TailParts} {end : ℕ} (z : Tailed s f a ps b ts c tp end) where
+  abbrev t : Texted s f a ps b ts c
+  t = z .texted
 
-        module _ (tp : TailParts) (end : ℕ) (z : Tailed tp end) where
-          pub body-fits : (tp .place ≤ end) × (end ≤ length s)
-          body-fits = (omega (arith, z .0 .place, tail-place o c (z .0 .value), ap (λ t. t .place) (z .1)), z .0 .inside)
+  abbrev oz : Order
+  oz = orderIn (t .sectioned .opened)
 
-          abbrev whole : Header
-          whole = record { opening = p .0 .value; sections = q .0 .value; texts = t .0 .value; tail = z .0 .value }
+  pub body-fits : (tp .place ≤ end) × (end ≤ length s)
+  body-fits = (omega (arith, z .got .place, tail-place oz c (z .got .value), ap (λ t. t .place) (z .shown)), z .got .inside)
 
-          header-is : header s ≡ accepted (whole, drop end s)
-          unfolding header
-          header-is = rw (p .0 .reads, q .0 .reads, t .0 .reads, z .0 .reads)
+  abbrev whole : Header
+  whole = record { opening = t .sectioned .opened .got .value; sections = t .sectioned .got .value; texts = t .got .value; tail = z .got .value }
 
-          end-is : length (encode whole) ≡ end
-          end-is =
-              omega (arith, z .0 .inside, length-drop end s, length-append (encode whole) (drop end s), ap length ((exact-header .forth s whole (drop end s) hb header-is) .1))
+  header-is : header s ≡ accepted (whole, drop end s)
+  unfolding header
+  header-is = rw (t .sectioned .opened .got .reads, t .sectioned .got .reads, t .got .reads, z .got .reads)
 
-          pub all-read : (body : Part) → body ≡ bodyOf (tp .ending) (tp .place) end (length s)
-              → Answers (accepted (record { flags = f; sections = ps; texts = ts; options = tp .options; ending = tp .ending; body = body }, end))
-          unfolding summary
-          all-read body e =
-              let ea : length (putOpening (p .0 .value)) ≡ a = omega (arith, p .0 .place) in
-              let eb : a + length (putSections o (q .0 .value)) ≡ b = omega (arith, q .0 .place) in
-              let ec : b + length (putTexts o (t .0 .value)) ≡ c = omega (arith, t .0 .place) in
-              let same : record { flags = f; sections = ps; texts = ts; options = tp .options; ending = tp .ending; body = body } ≡ summary (length s) whole =
-              rw (e, ← z .1, ea, eb, ec, end-is, p .1, q .1, t .1) in
-              ap (λ v. accepted (v, end)) same ∙ seen (summarySeen (length s)) header s 0 whole end (z .0 .inside) header-is
+  end-is : length (encode whole) ≡ end
+  end-is =
+      omega (arith, z .got .inside, length-drop end s, length-append (encode whole) (drop end s), ap length ((exact-header .forth s whole (drop end s) (t .sectioned .opened .bytes) header-is) .1))
+
+  pub all-read : {body : Part} → body ≡ bodyOf (tp .ending) (tp .place) end (length s)
+      → Answers s (accepted (record { flags = f; sections = ps; texts = ts; options = tp .options; ending = tp .ending; body = body }, end))
+  all-read {body} e =
+      let g = t .sectioned .opened in
+      let same = summary-is (length s) whole f ps ts tp body a b c end (omega (arith, g .got .place)) (omega (arith, t .sectioned .got .place)) (omega (arith, t .got .place)) end-is (g .shown) (t .sectioned .shown) (t .shown) (z .shown) e in
+      ap (λ v. accepted (v, end)) same ∙ seen (summarySeen (length s)) header s 0 whole end (z .got .inside) header-is

@@ -11,3 +11,4 @@ pub mod Got
 pub mod Output
 pub mod Copies
 pub mod Refuses
+pub mod Given

@@ -1,65 +1,71 @@
 -- `dat_read::walk` meets its contract. Assumes nothing.
-use mathlib.Core.Path.{sym, ap, _∙_}
-use Rattle.fields.specs.Number.{Bytes, bytes-all}
-use Rattle.dat_read.specs.Steps.{openingMeaning, sectionsMeaning, textsMeaning, tailMeaning}
+use mathlib.Core.List.{List}
+use Prim.Native.Nat.{ℕ}
+use Rattle.fields.specs.Given.{bytes-given}
 use Rattle.dat_read.proofs.WalkLaws.{Opened, Sectioned, Texted, Tailed, bad-opening, opened, bad-sections, sectioned, bad-texts, texted, bad-tail, tailed, body-fits, all-read}
 use borrow.Author.Needs.{needs}
-use native.Mathlib.Omega.{arith}
 use Rattle.dat_read.proofs.walk.Statement.{statement}
 use Rattle.dat_read.proofs.walk.Tie as tie
 
-all-bytes : (c : tie.After-flags) → Bytes (c .before .before .before .before .args .s .now)
-all-bytes c = bytes-all (c .before .before .before .before .args .s .now) (λ i. omega (arith, c .before .before .before .shared-slice-known .given i))
+-- the file, and the places, each from the one after it
+abbrev file : tie.After-flags → List ℕ
+file c = c .before .before .before .before .args .s .now
 
-the-opening : (c : tie.After-flags) → Opened (c .before .before .before .before .args .s .now) (all-bytes c) (c .flags .given .0 .0) (c .flags .given .0 .1 .0)
-the-opening c = opened (c .before .before .before .before .args .s .now) (all-bytes c) _ _ (ap openingMeaning (sym (c .flags .given .1)) ∙ c .before .before .opening-of .ensures)
+abbrev to-flags : tie.After-sections → tie.After-flags
+to-flags c = c .before .before .before .before
 
-the-sections : (c : tie.After-sections) → Sectioned (c .before .before .before .before .before .before .before .before .args .s .now) (all-bytes (c .before .before .before .before)) _ _ (the-opening (c .before .before .before .before)) (c .sections .given .0 .0) (c .sections .given .0 .1 .0)
-the-sections c = sectioned (c .before .before .before .before .before .before .before .before .args .s .now) (all-bytes (c .before .before .before .before)) _ _ (the-opening (c .before .before .before .before)) _ _ (ap sectionsMeaning (sym (c .sections .given .1)) ∙ c .before .before .sections-at .ensures)
+abbrev to-sections : tie.After-texts → tie.After-sections
+to-sections c = c .before .before .before .before
 
-the-texts : (c : tie.After-texts) → Texted (c .before .before .before .before .before .before .before .before .before .before .before .before .args .s .now) (all-bytes (c .before .before .before .before .before .before .before .before)) _ _ (the-opening (c .before .before .before .before .before .before .before .before)) _ _ (the-sections (c .before .before .before .before)) (c .texts .given .0 .0) (c .texts .given .0 .1 .0)
-the-texts c =
-    texted (c .before .before .before .before .before .before .before .before .before .before .before .before .args .s .now) (all-bytes (c .before .before .before .before .before .before .before .before)) _ _ (the-opening (c .before .before .before .before .before .before .before .before)) _ _ (the-sections (c .before .before .before .before)) _ _ (ap textsMeaning (sym (c .texts .given .1)) ∙ c .before .before .texts-at .ensures)
+abbrev to-texts : tie.After-parts → tie.After-texts
+to-texts c = c .before .before .before .before
 
-the-tail : (c : tie.After-parts)
-    → Tailed (c .before .before .before .before .before .before .before .before .before .before .before .before .before .before .before .before .args .s .now) (all-bytes (c .before .before .before .before .before .before .before .before .before .before .before .before)) _ _ (the-opening (c .before .before .before .before .before .before .before .before .before .before .before .before)) _ _ (the-sections (c .before .before .before .before .before .before .before .before)) _ _ (the-texts (c .before .before .before .before)) (c .parts .given .0 .0) (c .parts .given .0 .1 .0)
-the-tail c =
-    tailed (c .before .before .before .before .before .before .before .before .before .before .before .before .before .before .before .before .args .s .now) (all-bytes (c .before .before .before .before .before .before .before .before .before .before .before .before)) _ _ (the-opening (c .before .before .before .before .before .before .before .before .before .before .before .before)) _ _ (the-sections (c .before .before .before .before .before .before .before .before)) _ _ (the-texts (c .before .before .before .before)) _ _
-    (ap tailMeaning (sym (c .parts .given .1)) ∙ c .before .before .tail-at .ensures)
+-- what was read up to each
+the-opening : (a : tie.After-flags) → let f = a .flags .given .0 in Opened (file a) (f .0) (f .1 .0)
+the-opening a = let k : tie.After-shared-slice-known = search in opened (file a) (bytes-given (file a) (k .shared-slice-known .given)) (a .flags .given .1) (search)
+
+the-sections : (b : tie.After-sections) → let a = to-flags b in let f = a .flags .given .0 in let p = b .sections .given .0 in Sectioned (file a) (f .0) (f .1 .0) (p .0) (p .1 .0)
+the-sections b = sectioned (the-opening (to-flags b)) (b .sections .given .1) (search)
+
+the-texts : (c : tie.After-texts) → let b = to-sections c in let a = to-flags b in
+    let f = a .flags .given .0 in let p = b .sections .given .0 in let t = c .texts .given .0 in Texted (file a) (f .0) (f .1 .0) (p .0) (p .1 .0) (t .0) (t .1 .0)
+the-texts c = texted (the-sections (to-sections c)) (c .texts .given .1) (search)
+
+the-tail : (d : tie.After-parts) → let c = to-texts d in let b = to-sections c in let a = to-flags b in
+    let f = a .flags .given .0 in let p = b .sections .given .0 in let t = c .texts .given .0 in let e = d .parts .given .0 in
+    Tailed (file a) (f .0) (f .1 .0) (p .0) (p .1 .0) (t .0) (t .1 .0) (e .0) (e .1 .0)
+the-tail d = tailed (the-texts (to-texts d)) (d .parts .given .1) (search)
 
 sections-at-requires : tie.Need-sections-at-requires
-sections-at-requires c κs = the-opening (c .before) .0 .inside
+sections-at-requires c κs = the-opening (search) .got .inside
 
 texts-at-requires : tie.Need-texts-at-requires
-texts-at-requires c κs = the-sections (c .before) .0 .inside
+texts-at-requires c κs = the-sections (search) .got .inside
 
 tail-at-requires : tie.Need-tail-at-requires
-tail-at-requires c κs = the-texts (c .before) .0 .inside
+tail-at-requires c κs = the-texts (search) .got .inside
 
 body-of-requires : tie.Need-body-of-requires
-body-of-requires c κs =
-    body-fits (c .before .before .before .before .before .before .before .before .before .before .before .before .before .before .before .before .before .before .args .s .now) (all-bytes (c .before .before .before .before .before .before .before .before .before .before .before .before .before .before)) _ _ (the-opening (c .before .before .before .before .before .before .before .before .before .before .before .before .before .before)) _ _ (the-sections (c .before .before .before .before .before .before .before .before .before .before)) _ _ (the-texts (c .before .before .before .before .before .before)) _ _ (the-tail (c .before .before))
+body-of-requires c κs = body-fits (the-tail (search))
 
 returns : tie.Need-returns
-returns c = let s = c .before .before .before .before .before .args .s .now in bad-opening s (bytes-all s (λ i. omega (arith, c .before .before .before .before .shared-slice-known .given i))) _ (ap openingMeaning (sym (c .before .n .given .1)) ∙ c .before .before .before .opening-of .ensures)
+returns c = let q : tie.Start = search in bad-opening (q .args .s .now) (c .before .n .given .1) (search)
 
 returns-2 : tie.Need-returns-2
-returns-2 c = bad-sections (c .before .before .before .before .before .before .before .before .before .args .s .now) (all-bytes (c .before .before .before .before .before)) _ _ (the-opening (c .before .before .before .before .before)) _ (ap sectionsMeaning (sym (c .before .n2 .given .1)) ∙ c .before .before .before .sections-at .ensures)
+returns-2 c = bad-sections (the-opening (search)) (c .before .n2 .given .1) (search)
 
 returns-3 : tie.Need-returns-3
-returns-3 c =
-    bad-texts (c .before .before .before .before .before .before .before .before .before .before .before .before .before .args .s .now) (all-bytes (c .before .before .before .before .before .before .before .before .before)) _ _ (the-opening (c .before .before .before .before .before .before .before .before .before)) _ _ (the-sections (c .before .before .before .before .before)) _ (ap textsMeaning (sym (c .before .n3 .given .1)) ∙ c .before .before .before .texts-at .ensures)
+returns-3 c = bad-texts (the-sections (search)) (c .before .n3 .given .1) (search)
 
 returns-4 : tie.Need-returns-4
-returns-4 c =
-    bad-tail (c .before .before .before .before .before .before .before .before .before .before .before .before .before .before .before .before .before .args .s .now) (all-bytes (c .before .before .before .before .before .before .before .before .before .before .before .before .before)) _ _ (the-opening (c .before .before .before .before .before .before .before .before .before .before .before .before .before)) _ _ (the-sections (c .before .before .before .before .before .before .before .before .before)) _ _ (the-texts (c .before .before .before .before .before)) _
-    (ap tailMeaning (sym (c .before .n4 .given .1)) ∙ c .before .before .before .tail-at .ensures)
+returns-4 c = bad-tail (the-texts (search)) (c .before .n4 .given .1) (search)
 
 returns-5 : tie.Need-returns-5
-returns-5 c =
-    all-read (c .before .before .before .before .before .before .before .before .before .before .before .before .before .before .before .before .before .before .before .args .s .now) (all-bytes (c .before .before .before .before .before .before .before .before .before .before .before .before .before .before .before)) _ _ (the-opening (c .before .before .before .before .before .before .before .before .before .before .before .before .before .before .before)) _ _ (the-sections (c .before .before .before .before .before .before .before .before .before .before .before)) _ _ (the-texts (c .before .before .before .before .before .before .before)) _ _ (the-tail (c .before .before .before)) _ (c .body-of .ensures)
+returns-5 c = all-read (the-tail (search)) (c .body-of .ensures)
 
 pub walk-spec : {M : Type 1} → statement M
 walk-spec =
     tie.close
-    (tie.spec (λ c κs. search needs) (λ c. search needs) (λ c. search needs) sections-at-requires (λ c. search needs) (λ c. search needs) texts-at-requires (λ c. search needs) (λ c. search needs) tail-at-requires (λ c. search needs) (λ c. search needs) body-of-requires returns returns-2 returns-3 returns-4 returns-5)
+    (tie.spec (λ c κs. search needs) (λ c. search needs) (λ c. search needs) sections-at-requires (λ c. search needs) (λ c. search needs)
+    texts-at-requires (λ c. search needs) (λ c. search needs) tail-at-requires (λ c. search needs) (λ c. search needs) body-of-requires returns
+    returns-2 returns-3 returns-4 returns-5)

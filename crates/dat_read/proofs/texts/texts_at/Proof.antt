@@ -1,83 +1,77 @@
 -- `dat_read::texts::texts_at` meets its contract. Assumes nothing.
-use mathlib.Core.Path.{sym, ap, _∙_}
-use Rattle.fields.specs.Number.{bytes-all}
-use Rattle.fields.specs.Got.{passed}
-use Rattle.dat_format.specs.ExactPieces.{exact-sized}
-use Rattle.dat_read.specs.Steps.{stepMeaning}
-use Rattle.dat_read.proofs.SectionLaws.{Sized, sized-end, bad-kallsyms, bad-printk, bad-processes, no-count, many-cpus, texts-read}
+use Rattle.fields.specs.Given.{bytes-given}
+use Rattle.dat_read.proofs.SectionLaws.{Begun, Symbols, Printk, Processes, bad-kallsyms, symbols, bad-printk, printk, bad-processes, processes, texts-lie, no-count, many-cpus, texts-read}
 use borrow.Author.Needs.{needs}
 use native.Mathlib.Omega.{arith}
 use Rattle.dat_read.proofs.texts.texts_at.Statement.{statement}
 use Rattle.dat_read.proofs.texts.texts_at.Tie as tie
 
-kallsyms : (c : tie.After-a) → Sized (c .before .before .before .before .args .order) 4 (c .before .before .before .before .args .s .now) (c .before .before .before .before .args .at) (c .a .given .0 .0)
-kallsyms c =
-    let a = c .before .before .before .before .args in
-    passed (exact-sized (a .order) 4) (a .s .now) (bytes-all (a .s .now) (λ i. omega (arith, c .before .before .before .shared-slice-known .given i))) (a .at) (omega arith) (c .a .given .0 .0)
-    (ap stepMeaning (sym (c .a .given .1)) ∙ c .before .before .sized-at .ensures)
+-- the places, each from the one after it
+abbrev entry : tie.After-a → tie.After-shared-slice-known
+entry c = c .before .before .before
 
-printk : (c : tie.After-b) → Sized (c .before .before .before .before .before .before .before .before .args .order) 4 (c .before .before .before .before .before .before .before .before .args .s .now) (c .before .before .before .before .a .given .0 .0) (c .b .given .0 .0)
-printk c =
-    let a = c .before .before .before .before .before .before .before .before .args in
-    passed (exact-sized (a .order) 4) (a .s .now) (bytes-all (a .s .now) (λ i. omega (arith, c .before .before .before .before .before .before .before .shared-slice-known .given i))) (c .before .before .before .before .a .given .0 .0) (kallsyms (c .before .before .before .before) .inside) (c .b .given .0 .0)
-    (ap stepMeaning (sym (c .b .given .1)) ∙ c .before .before .sized-at2 .ensures)
+abbrev to-a : tie.After-b → tie.After-a
+to-a c = c .before .before .before .before
 
-processes : (c : tie.After-c) → Sized (c .before .before .before .before .before .before .before .before .before .before .before .before .args .order) 8 (c .before .before .before .before .before .before .before .before .before .before .before .before .args .s .now) (c .before .before .before .before .b .given .0 .0) (c .c .given .0 .0)
-processes c =
-    let a = c .before .before .before .before .before .before .before .before .before .before .before .before .args in
-    passed (exact-sized (a .order) 8) (a .s .now) (bytes-all (a .s .now) (λ i. omega (arith, c .before .before .before .before .before .before .before .before .before .before .before .shared-slice-known .given i))) (c .before .before .before .before .b .given .0 .0) (printk (c .before .before .before .before) .inside) (c .c .given .0 .0)
-    (ap stepMeaning (sym (c .c .given .1)) ∙ c .before .before .sized-at3 .ensures)
+abbrev to-b : tie.After-c → tie.After-b
+to-b c = c .before .before .before .before
+
+-- what was read up to each
+begun : (k : tie.After-shared-slice-known) → let q = k .before .args in Begun (q .order) (q .s .now) (q .at)
+begun k = record { bytes = bytes-given (k .before .args .s .now) (k .shared-slice-known .given); inside = k .before .pre }
+
+read-a : (c : tie.After-a) → let q = entry c .before .args in Symbols (q .order) (q .s .now) (q .at) (c .a .given .0 .0)
+read-a c = symbols (begun (entry c)) (c .a .given .1) (search)
+
+read-b : (c : tie.After-b) → let q = entry (to-a c) .before .args in Printk (q .order) (q .s .now) (q .at) (to-a c .a .given .0 .0) (c .b .given .0 .0)
+read-b c = printk (read-a (to-a c)) (c .b .given .1) (search)
+
+read-c : (c : tie.After-c) → let b = to-b c in let q = entry (to-a b) .before .args in
+    Processes (q .order) (q .s .now) (q .at) (to-a b .a .given .0 .0) (b .b .given .0 .0) (c .c .given .0 .0)
+read-c c = processes (read-b (to-b c)) (c .c .given .1) (search)
 
 sized-at-requires-2 : tie.Need-sized-at-requires-2
-sized-at-requires-2 c κs = kallsyms (c .before) .inside
+sized-at-requires-2 c κs = read-a (search) .kallsyms .inside
 
 sized-at-requires-3 : tie.Need-sized-at-requires-3
-sized-at-requires-3 c κs = printk (c .before) .inside
+sized-at-requires-3 c κs = read-b (search) .printk .inside
 
 sub-if1 : tie.Need-sub-if1
-sub-if1 c = processes (c .before) .inside
+sub-if1 c = read-c (search) .processes .inside
 
 add-next : tie.Need-add-next
-add-next c = let g = processes (c .before .before) .inside in omega arith
+add-next c = omega (arith, texts-lie (read-c (search)))
 
 returns : tie.Need-returns
-returns c =
-    let a = c .before .before .before .before .before .before .before .before .before .before .before .before .before .before .args in
-    no-count (a .order) (a .s .now) (a .at) _ (kallsyms (c .before .before .before .before .before .before .before .before .before .before)) _ (printk (c .before .before .before .before .before .before)) _ (processes (c .before .before)) (omega arith)
+returns c = no-count (read-c (search)) (omega arith)
 
 returns-2 : tie.Need-returns-2
-returns-2 c =
-    let a = c .before .before .before .before .before .before .before .before .before .before .before .before .before .before .before .before .args in
-    many-cpus (a .order) (a .s .now) (a .at) _ (kallsyms (c .before .before .before .before .before .before .before .before .before .before .before .before)) _ (printk (c .before .before .before .before .before .before .before .before)) _ (processes (c .before .before .before .before)) (omega arith) _ (c .before .u32-at .ensures) (omega arith)
+returns-2 c = many-cpus (read-c (search)) (omega arith) (c .before .u32-at .ensures) (omega arith)
 
 span-requires : tie.Need-span-requires
-span-requires c κs = omega (arith, sized-end (c .before .before .before .before .before .before .before .before .before .before .before .before .before .before .before .before .args .order) 4 (c .before .before .before .before .before .before .before .before .before .before .before .before .before .before .before .before .args .s .now) _ _ (kallsyms (c .before .before .before .before .before .before .before .before .before .before .before .before)))
+span-requires c κs = omega (arith, texts-lie (read-c (search)))
 
 span-requires-2 : tie.Need-span-requires-2
-span-requires-2 c κs = omega (arith, sized-end (c .before .before .before .before .before .before .before .before .before .before .before .before .before .before .before .before .before .args .order) 4 (c .before .before .before .before .before .before .before .before .before .before .before .before .before .before .before .before .before .args .s .now) _ _ (printk (c .before .before .before .before .before .before .before .before .before)))
+span-requires-2 c κs = omega (arith, texts-lie (read-c (search)))
 
 span-requires-3 : tie.Need-span-requires-3
-span-requires-3 c κs = omega (arith, sized-end (c .before .before .before .before .before .before .before .before .before .before .before .before .before .before .before .before .before .before .args .order) 8 (c .before .before .before .before .before .before .before .before .before .before .before .before .before .before .before .before .before .before .args .s .now) _ _ (processes (c .before .before .before .before .before .before)))
+span-requires-3 c κs = omega (arith, texts-lie (read-c (search)))
 
 returns-3 : tie.Need-returns-3
-returns-3 c = let a = c .before .before .before .before .before .args in bad-kallsyms (a .order) (a .s .now) (a .at) (c .before .n .given .0 .0) (ap stepMeaning (sym (c .before .n .given .1)) ∙ c .before .before .before .sized-at .ensures)
+returns-3 c = bad-kallsyms (begun (search)) (c .before .n .given .1) (search)
 
 returns-4 : tie.Need-returns-4
-returns-4 c =
-    let a = c .before .before .before .before .before .before .before .before .before .args in
-    bad-printk (a .order) (a .s .now) (a .at) _ (kallsyms (c .before .before .before .before .before)) (c .before .n2 .given .0 .0) (ap stepMeaning (sym (c .before .n2 .given .1)) ∙ c .before .before .before .sized-at2 .ensures)
+returns-4 c = bad-printk (read-a (search)) (c .before .n2 .given .1) (search)
 
 returns-5 : tie.Need-returns-5
-returns-5 c =
-    let a = c .before .before .before .before .before .before .before .before .before .before .before .before .before .args in
-    bad-processes (a .order) (a .s .now) (a .at) _ (kallsyms (c .before .before .before .before .before .before .before .before .before)) _ (printk (c .before .before .before .before .before)) (c .before .n3 .given .0 .0) (ap stepMeaning (sym (c .before .n3 .given .1)) ∙ c .before .before .before .sized-at3 .ensures)
+returns-5 c = bad-processes (read-b (search)) (c .before .n3 .given .1) (search)
 
 returns-6 : tie.Need-returns-6
-returns-6 c =
-    let a = c .before .before .before .before .before .before .before .before .before .before .before .before .before .before .before .before .before .before .before .args in
-    texts-read (a .order) (a .s .now) (a .at) _ (kallsyms (c .before .before .before .before .before .before .before .before .before .before .before .before .before .before .before)) _ (printk (c .before .before .before .before .before .before .before .before .before .before .before)) _ (processes (c .before .before .before .before .before .before .before)) (omega arith) _ (c .before .before .before .before .u32-at .ensures) (omega arith) _ _ _ (c .before .before .span .ensures) (c .before .span2 .ensures) (c .span3 .ensures)
+returns-6 c = texts-read (read-c (search)) (omega arith) (search) (omega arith) (search) (search) (search)
 
 pub texts-at-spec : {M : Type 1} → statement M
 texts-at-spec =
     tie.close
-    (tie.spec (λ c κs. search needs) (λ c. search needs) (λ c. search needs) sized-at-requires-2 (λ c. search needs) (λ c. search needs) sized-at-requires-3 (λ c. search needs) (λ c. search needs) sub-if1 returns add-next (λ c κs. search needs) returns-2 span-requires span-requires-2 span-requires-3 returns-3 returns-4 returns-5 returns-6)
+    (tie.spec (λ c κs. search needs) (λ c. search needs) (λ c. search needs) sized-at-requires-2 (λ c. search needs) (λ c. search needs)
+    sized-at-requires-3 (λ c. search needs) (λ c. search needs) sub-if1 returns add-next (λ c κs. search needs) returns-2 span-requires
+    span-requires-2 span-requires-3 returns-3 returns-4 returns-5 returns-6)
