@@ -1,8 +1,8 @@
 -- `tracedat::summary` meets its contract. Assumes nothing.
-use mathlib.Core.Path.{_≡_, sym, ap, _∙_}
+use mathlib.Core.Path.{_≡_, sym, _∙_}
 use mathlib.Core.List.{List}
 use Prim.Native.Nat.{ℕ}
-use Rattle.fields.specs.Number.{Bytes, bytes-all}
+use Rattle.fields.specs.Number.{Bytes}
 use Rattle.fields.specs.Answer.{accepted}
 use Rattle.fields.specs.Reader.{seenAt}
 use Rattle.dat_format.specs.Decode.{header}
@@ -10,6 +10,7 @@ use Rattle.dat_read.specs.Steps.{walkMeaning}
 use Rattle.dat_read.specs.Summary.{summarySeen}
 use lib.ListN.{length}
 use Rattle.tracedat.proofs.SummaryLaws.{Summarised, page-some, room, too-long, bad-walk, summarised, accept-text, bad-range, overlap, accept-entries}
+use Rattle.fields.specs.Given.{bytes-given, at-case}
 use borrow.Author.Needs.{needs}
 use native.Mathlib.Omega.{arith}
 use Rattle.tracedat.proofs.summary.Statement.{statement}
@@ -24,11 +25,11 @@ abbrev file : tie.After-walk → List ℕ
 file c = c .before .before .before .args .file .now
 
 all-bytes : (c : tie.After-walk) → Bytes (file c)
-all-bytes c = bytes-all (file c) (λ i. omega (arith, c .before .before .shared-slice-known .given i))
+all-bytes c = bytes-given (file c) (c .before .before .shared-slice-known .given)
 
 walked : (c : tie.After-summary) → let s = file (to-walk c) in
     accepted (c .summary .given .0 .0, c .summary .given .0 .1 .0) ≡ seenAt (summarySeen (length s)) header s 0
-walked c = ap walkMeaning (sym (c .summary .given .1)) ∙ to-walk c .walk .ensures
+walked c = at-case walkMeaning (c .summary .given .1) (search)
 
 -- ---- where the ranges are judged
 
@@ -49,7 +50,7 @@ returns c = too-long (c .before .before .args .file .now) (omega arith)
 returns-2 : tie.Need-returns-2
 returns-2 c =
     let w : tie.After-walk = search in
-    bad-walk (file w) (all-bytes w) (omega arith) _ (ap walkMeaning (sym (c .before .n .given .1)) ∙ w .walk .ensures)
+    bad-walk (file w) (all-bytes w) (omega arith) _ (at-case walkMeaning (c .before .n .given .1) (search))
 
 returns-3 : tie.Need-returns-3
 returns-3 c = accept-text _ (all-bytes (search)) (omega arith) _ _ (walked (search)) (c .enum-told .given .1)

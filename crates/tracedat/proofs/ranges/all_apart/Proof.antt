@@ -22,7 +22,7 @@ returns : tie.Need-returns Inv-loop μ-loop
 returns c = sym (c .before .in-order .ensures (c .if1 .taken))
 
 loop-holds : tie.Need-loop-holds Inv-loop μ-loop
-loop-holds c = (c .before .before .before .pre, refl)
+loop-holds c = let start : tie.Start Inv-loop μ-loop = search in (start .pre, refl)
 
 add-u64-at : tie.Need-add-u64-at Inv-loop μ-loop
 add-u64-at c = omega arith
@@ -38,26 +38,34 @@ all-pass-requires c κs = (tt, omega arith)
 
 returns-2 : tie.Need-returns-2 Inv-loop μ-loop
 returns-2 c =
-    let a = c .before .before .before .before .before .before .before .before .before .args in
-    let l = c .before .before .before .before .before .loop in
-    apart-not (a .order) (a .s .now) (l .at) _ _ (c .before .before .before .u64-at .ensures) (c .before .before .u64-at2 .ensures) (l .left) (omega arith) (sym (c .before .all-pass .ensures) ∙ not-true _ (c .if2 .taken)) ∙ l .inv .1
+    let at-u64-at : tie.After-u64-at Inv-loop μ-loop = search in
+    let at-loop : tie.At-loop Inv-loop μ-loop = search in
+    let start : tie.Start Inv-loop μ-loop = search in
+    let a = start .args in
+    let l = at-loop .loop in
+    apart-not (a .order) (a .s .now) (l .at) _ _ (at-u64-at .u64-at .ensures) (c .before .before .u64-at2 .ensures) (l .left) (omega arith) (sym (c .before .all-pass .ensures) ∙ not-true _ (c .if2 .taken)) ∙ l .inv .1
 
 loop-less : tie.Need-loop-less Inv-loop μ-loop
 loop-less c = omega arith
 
 loop-again : tie.Need-loop-again Inv-loop μ-loop
 loop-again c =
-    let a = c .before .before .before .before .before .before .before .before .before .args in
-    let l = c .before .before .before .before .before .loop in
-    (omega arith, apart-more (a .order) (a .s .now) (l .at) _ _ (c .before .before .before .u64-at .ensures) (c .before .before .u64-at2 .ensures) (l .left) (omega arith) (sym (c .before .all-pass .ensures) ∙ not-false _ (c .if2 .left)) ∙ l .inv .1)
+    let at-u64-at : tie.After-u64-at Inv-loop μ-loop = search in
+    let at-loop : tie.At-loop Inv-loop μ-loop = search in
+    let start : tie.Start Inv-loop μ-loop = search in
+    let a = start .args in
+    let l = at-loop .loop in
+    (omega arith, apart-more (a .order) (a .s .now) (l .at) _ _ (at-u64-at .u64-at .ensures) (c .before .before .u64-at2 .ensures) (l .left) (omega arith) (sym (c .before .all-pass .ensures) ∙ not-false _ (c .if2 .left)) ∙ l .inv .1)
 
 returns-3 : tie.Need-returns-3 Inv-loop μ-loop
 returns-3 c =
-    let a = c .before .before .before .before .before .args in
+    let start : tie.Start Inv-loop μ-loop = search in
+    let a = start .args in
     let l = c .before .loop in
     apart-end (a .order) (a .s .now) (l .at) (l .left) (omega arith) ∙ l .inv .1
 
 pub all-apart-spec : {M : Type 1} → statement M
 all-apart-spec =
     tie.close
-    (tie.spec Inv-loop μ-loop (λ c κs. search needs) returns loop-holds (λ c κs. search needs) add-u64-at (λ c κs. search needs) add-at sub-left all-pass-requires returns-2 loop-less loop-again returns-3)
+    (tie.spec Inv-loop μ-loop (λ c κs. search needs) returns loop-holds (λ c κs. search needs) add-u64-at (λ c κs. search needs) add-at sub-left
+    all-pass-requires returns-2 loop-less loop-again returns-3)

@@ -27,13 +27,16 @@ add-u64-at : tie.Need-add-u64-at Inv-loop μ-loop
 add-u64-at c = omega arith
 
 passes-requires : tie.Need-passes-requires Inv-loop μ-loop
-passes-requires c κs = c .before .before .before .before .before .pre .0
+passes-requires c κs = let start : tie.Start Inv-loop μ-loop = search in start .pre .0
 
 returns : tie.Need-returns Inv-loop μ-loop
 returns c =
-    let a = c .before .before .before .before .before .before .before .args in
-    let l = c .before .before .before .before .before .loop in
-    all-not (a .order) (a .s .now) (l .at) _ _ (c .before .before .before .u64-at .ensures) (c .before .before .u64-at2 .ensures) (l .left) (omega arith) (testOf (a .test)) (sym (c .before .passes .ensures) ∙ not-true _ (c .if1 .taken)) ∙ l .inv .1
+    let at-u64-at : tie.After-u64-at Inv-loop μ-loop = search in
+    let at-loop : tie.At-loop Inv-loop μ-loop = search in
+    let start : tie.Start Inv-loop μ-loop = search in
+    let a = start .args in
+    let l = at-loop .loop in
+    all-not (a .order) (a .s .now) (l .at) _ _ (at-u64-at .u64-at .ensures) (c .before .before .u64-at2 .ensures) (l .left) (omega arith) (testOf (a .test)) (sym (c .before .passes .ensures) ∙ not-true _ (c .if1 .taken)) ∙ l .inv .1
 
 add-at : tie.Need-add-at Inv-loop μ-loop
 add-at c = omega arith
@@ -46,17 +49,22 @@ loop-less c = omega arith
 
 loop-again : tie.Need-loop-again Inv-loop μ-loop
 loop-again c =
-    let a = c .before .before .before .before .before .before .before .args in
-    let l = c .before .before .before .before .before .loop in
-    (omega arith, all-more (a .order) (a .s .now) (l .at) _ _ (c .before .before .before .u64-at .ensures) (c .before .before .u64-at2 .ensures) (l .left) (omega arith) (testOf (a .test)) (sym (c .before .passes .ensures) ∙ not-false _ (c .if1 .left)) ∙ l .inv .1)
+    let at-u64-at : tie.After-u64-at Inv-loop μ-loop = search in
+    let at-loop : tie.At-loop Inv-loop μ-loop = search in
+    let start : tie.Start Inv-loop μ-loop = search in
+    let a = start .args in
+    let l = at-loop .loop in
+    (omega arith, all-more (a .order) (a .s .now) (l .at) _ _ (at-u64-at .u64-at .ensures) (c .before .before .u64-at2 .ensures) (l .left) (omega arith) (testOf (a .test)) (sym (c .before .passes .ensures) ∙ not-false _ (c .if1 .left)) ∙ l .inv .1)
 
 returns-2 : tie.Need-returns-2 Inv-loop μ-loop
 returns-2 c =
-    let a = c .before .before .before .args in
+    let start : tie.Start Inv-loop μ-loop = search in
+    let a = start .args in
     let l = c .before .loop in
     all-end (a .order) (a .s .now) (l .at) (testOf (a .test)) (l .left) (omega arith) ∙ l .inv .1
 
 pub all-pass-spec : {M : Type 1} → statement M
 all-pass-spec =
     tie.close
-    (tie.spec Inv-loop μ-loop loop-holds (λ c κs. search needs) add-u64-at (λ c κs. search needs) passes-requires returns add-at sub-left loop-less loop-again returns-2)
+    (tie.spec Inv-loop μ-loop loop-holds (λ c κs. search needs) add-u64-at (λ c κs. search needs) passes-requires returns add-at sub-left loop-less
+    loop-again returns-2)

@@ -12,10 +12,14 @@ returns-2 : tie.Need-returns-2
 returns-2 c = let a = c .before .before .args in second-empty (a .first) (a .first-size) (a .second) (a .second-size) (c .before .if1 .left) (c .if2 .taken)
 
 returns-3 : tie.Need-returns-3
-returns-3 c = let a = c .before .before .before .args in first-low (a .first) (a .first-size) (a .second) (a .second-size) (c .before .before .if1 .left) (c .before .if2 .left) (omega arith)
+returns-3 c =
+    let start : tie.Start = search in
+    let a = start .args in first-low (a .first) (a .first-size) (a .second) (a .second-size) (c .before .before .if1 .left) (c .before .if2 .left) (omega arith)
 
 returns-4 : tie.Need-returns-4
-returns-4 c = let a = c .before .before .before .args in second-low (a .first) (a .first-size) (a .second) (a .second-size) (c .before .before .if1 .left) (c .before .if2 .left) (omega arith)
+returns-4 c =
+    let start : tie.Start = search in
+    let a = start .args in second-low (a .first) (a .first-size) (a .second) (a .second-size) (c .before .before .if1 .left) (c .before .if2 .left) (omega arith)
 
 pub are-apart-spec : {M : Type 1} → statement M
 are-apart-spec =

@@ -10,9 +10,11 @@ returns c = let a = c .before .args in leads-empty (a .last) (a .start) (a .leng
 
 returns-4 : tie.Need-returns-4
 returns-4 c =
-    let a = c .before .before .before .before .args in
+    let at-else1 : tie.Else1 = search in
+    let start : tie.Start = search in
+    let a = start .args in
     let e = c .before .before .wrapping-add-u64 in
-    leads-on (a .last) (a .start) (a .length) (c .before .before .before .if1 .left) (omega arith) (e .result) (wrap-free (a .start) (a .length) (e .result) (omega arith) (omega arith) (e .ensures) (omega arith))
+    leads-on (a .last) (a .start) (a .length) (at-else1 .if1 .left) (omega arith) (e .result) (wrap-free (a .start) (a .length) (e .result) (omega arith) (omega arith) (e .ensures) (omega arith))
 
 pub end-after-spec : {M : Type 1} → statement M
 end-after-spec =

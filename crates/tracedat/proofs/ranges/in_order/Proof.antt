@@ -40,18 +40,25 @@ loop-less c = omega arith
 
 loop-again : tie.Need-loop-again Inv-loop μ-loop
 loop-again c =
-    let a = c .before .before .before .before .before .before .before .before .before .args in
-    let l = c .before .before .before .before .before .before .before .loop in
-    let h = subst (λ z. Leads z (l .last) (rangeOf (c .before .before .before .before .before .u64-at .result) (c .before .before .before .before .u64-at2 .result))) (c .before .end .given .1) (c .before .before .before .end-after .ensures) in
-    (omega arith, λ e. l .inv .1 (order-turn (a .order) (a .s .now) (l .at) _ _ (c .before .before .before .before .before .u64-at .ensures) (c .before .before .before .before .u64-at2 .ensures) (l .last) (c .before .end .given .0 .0) (l .left) (omega arith) h e))
+    let at-end-after : tie.After-end-after Inv-loop μ-loop = search in
+    let at-u64-at2 : tie.After-u64-at2 Inv-loop μ-loop = search in
+    let at-u64-at : tie.After-u64-at Inv-loop μ-loop = search in
+    let at-loop : tie.At-loop Inv-loop μ-loop = search in
+    let start : tie.Start Inv-loop μ-loop = search in
+    let a = start .args in
+    let l = at-loop .loop in
+    let h = subst (λ z. Leads z (l .last) (rangeOf (at-u64-at .u64-at .result) (at-u64-at2 .u64-at2 .result))) (c .before .end .given .1) (at-end-after .end-after .ensures) in
+    (omega arith, λ e. l .inv .1 (order-turn (a .order) (a .s .now) (l .at) _ _ (at-u64-at .u64-at .ensures) (at-u64-at2 .u64-at2 .ensures) (l .last) (c .before .end .given .0 .0) (l .left) (omega arith) h e))
 
 returns-2 : tie.Need-returns-2 Inv-loop μ-loop
 returns-2 c =
-    let a = c .before .before .before .args in
+    let start : tie.Start Inv-loop μ-loop = search in
+    let a = start .args in
     let l = c .before .loop in
     λ z. order-apart 0 (entries (a .order) (a .s .now) (a .n) (a .from)) (l .inv .1 (order-end (a .order) (a .s .now) (l .at) (l .last) (l .left) (omega arith)))
 
 pub in-order-spec : {M : Type 1} → statement M
 in-order-spec =
     tie.close
-    (tie.spec Inv-loop μ-loop loop-holds (λ c κs. search needs) add-u64-at (λ c κs. search needs) (λ c κs. search needs) (λ c. search needs) returns (λ c. search needs) add-at sub-left loop-less loop-again returns-2)
+    (tie.spec Inv-loop μ-loop loop-holds (λ c κs. search needs) add-u64-at (λ c κs. search needs) (λ c κs. search needs) (λ c. search needs) returns
+    (λ c. search needs) add-at sub-left loop-less loop-again returns-2)
