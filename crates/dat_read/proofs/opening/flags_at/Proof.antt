@@ -9,13 +9,13 @@ returns : tie.Need-returns
 returns c = let a = c .before .before .args in no-order (a .s .now) (a .at) (omega arith)
 
 returns-2 : tie.Need-returns-2
-returns-2 c = let a = c .before .before .before .before .before .args in is-little (a .s .now) (a .at) (omega arith) (c .before .if2 .taken) _ (c .sizes-at .ensures)
+returns-2 c = let start : tie.Start = search in let a = start .args in is-little (a .s .now) (a .at) (omega arith) (c .before .if2 .taken) _ (c .sizes-at .ensures)
 
 returns-3 : tie.Need-returns-3
-returns-3 c = let a = c .before .before .before .before .before .before .args in is-big (a .s .now) (a .at) (omega arith) (c .before .if3 .taken) _ (c .sizes-at2 .ensures)
+returns-3 c = let start : tie.Start = search in let a = start .args in is-big (a .s .now) (a .at) (omega arith) (c .before .if3 .taken) _ (c .sizes-at2 .ensures)
 
 returns-4 : tie.Need-returns-4
-returns-4 c = let a = c .before .before .before .before .before .args in bad-order (a .s .now) (a .at) (omega arith) (c .before .if2 .left) (c .if3 .left)
+returns-4 c = let start : tie.Start = search in let a = start .args in bad-order (a .s .now) (a .at) (omega arith) (c .before .if2 .left) (c .if3 .left)
 
 pub flags-at-spec : {M : Type 1} → statement M
 flags-at-spec =

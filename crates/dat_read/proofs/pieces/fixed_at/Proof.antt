@@ -8,20 +8,24 @@ use Rattle.dat_read.proofs.pieces.fixed_at.Tie as tie
 
 returns : tie.Need-returns
 returns c =
-    let a = c .before .before .before .args in
+    let start : tie.Start = search in
+    let a = start .args in
     fixed-short (a .s .now) (a .at) (omega arith) (a .word .now) (omega arith)
 
 returns-2 : tie.Need-returns-2
 returns-2 c =
-    let a = c .before .before .before .before .before .before .args in
+    let start : tie.Start = search in
+    let a = start .args in
     fixed-here (a .s .now) (a .at) (omega arith) (a .word .now) (omega arith) (sym (c .before .begins .ensures) ∙ c .if2 .taken)
 
 returns-3 : tie.Need-returns-3
 returns-3 c =
-    let a = c .before .before .before .before .before .before .args in
+    let start : tie.Start = search in
+    let a = start .args in
     fixed-other (a .s .now) (a .at) (omega arith) (a .word .now) (omega arith) (sym (c .before .begins .ensures) ∙ c .if2 .left)
 
 pub fixed-at-spec : {M : Type 1} → statement M
 fixed-at-spec =
     tie.close
-    (tie.spec (λ c. search needs) returns (λ c. search needs) (λ c. search needs) (λ c. search needs) (λ c κs. search needs) (λ c. search needs) returns-2 returns-3)
+    (tie.spec (λ c. search needs) returns (λ c. search needs) (λ c. search needs) (λ c. search needs) (λ c κs. search needs) (λ c. search needs)
+    returns-2 returns-3)

@@ -1,10 +1,9 @@
 -- `dat_read::pieces::piece_at` meets its contract. Assumes nothing.
-use mathlib.Core.Path.{sym, ap, _∙_}
-use Rattle.fields.specs.Number.{bytes-all}
 use Rattle.fields.specs.Got.{passed, then-refused, then-next}
 use Rattle.dat_format.specs.Pieces.{fixed, sized}
 use Rattle.dat_format.specs.ExactPieces.{exact-fixed}
 use Rattle.dat_read.specs.Steps.{stepMeaning}
+use Rattle.fields.specs.Given.{bytes-given, at-case}
 use borrow.Author.Needs.{needs}
 use native.Mathlib.Omega.{arith}
 use Rattle.dat_read.proofs.pieces.piece_at.Statement.{statement}
@@ -12,18 +11,23 @@ use Rattle.dat_read.proofs.pieces.piece_at.Tie as tie
 
 sized-at-requires : tie.Need-sized-at-requires
 sized-at-requires c κs =
-    let a = c .before .before .before .before .before .before .args in
-    passed (exact-fixed (a .word .now)) (a .s .now) (bytes-all (a .s .now) (λ i. omega (arith, c .before .before .before .before .before .shared-slice-known .given i))) (a .at) (omega arith) (c .before .next .given .0 .0) (ap stepMeaning (sym (c .before .next .given .1)) ∙ c .before .before .before .fixed-at .ensures) .inside
+    let at-shared-slice-known : tie.After-shared-slice-known = search in
+    let start : tie.Start = search in
+    let a = start .args in
+    passed (exact-fixed (a .word .now)) (a .s .now) (bytes-given (a .s .now) (at-shared-slice-known .shared-slice-known .given)) (a .at) (omega arith) (c .before .next .given .0 .0) (at-case stepMeaning (c .before .next .given .1) (search)) .inside
 
 returns : tie.Need-returns
 returns c =
-    let a = c .before .before .before .before .before .before .args in
-    then-refused (fixed (a .word .now)) (a .s .now) (a .at) (λ u. sized (a .order) 8) (c .before .n .given .0 .0) (ap stepMeaning (sym (c .before .n .given .1)) ∙ c .before .before .before .fixed-at .ensures)
+    let start : tie.Start = search in
+    let a = start .args in
+    then-refused (fixed (a .word .now)) (a .s .now) (a .at) (λ u. sized (a .order) 8) (c .before .n .given .0 .0) (at-case stepMeaning (c .before .n .given .1) (search))
 
 returns-2 : tie.Need-returns-2
 returns-2 c =
-    let a = c .before .before .before .before .before .before .before .args in
-    let g = passed (exact-fixed (a .word .now)) (a .s .now) (bytes-all (a .s .now) (λ i. omega (arith, c .before .before .before .before .before .before .shared-slice-known .given i))) (a .at) (omega arith) (c .before .before .next .given .0 .0) (ap stepMeaning (sym (c .before .before .next .given .1)) ∙ c .before .before .before .before .fixed-at .ensures) in
+    let at-shared-slice-known : tie.After-shared-slice-known = search in
+    let start : tie.Start = search in
+    let a = start .args in
+    let g = passed (exact-fixed (a .word .now)) (a .s .now) (bytes-given (a .s .now) (at-shared-slice-known .shared-slice-known .given)) (a .at) (omega arith) (c .before .before .next .given .0 .0) (at-case stepMeaning (c .before .before .next .given .1) (search)) in
     then-next (fixed (a .word .now)) (a .s .now) (a .at) (λ u. sized (a .order) 8) _ _ (c .before .before .next .given .0 .0) g _ (c .sized-at .ensures)
 
 pub piece-at-spec : {M : Type 1} → statement M

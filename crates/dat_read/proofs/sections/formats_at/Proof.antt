@@ -11,7 +11,8 @@ returns c = let a = c .before .before .args in counted-none (a .s .now) (a .at) 
 
 returns-2 : tie.Need-returns-2
 returns-2 c =
-    let a = c .before .before .before .before .args in
+    let start : tie.Start = search in
+    let a = start .args in
     counted-here (a .s .now) (a .at) (omega arith) (sized (a .order) 8) (a .order) (omega arith) (c .before .u32-at .result) (c .before .u32-at .ensures) _ (c .formats-from .ensures)
 
 pub formats-at-spec : {M : Type 1} → statement M

@@ -1,9 +1,8 @@
 -- `dat_read::sections::systems_from` meets its contract. The loop's invariant: the systems left from `at` on end where the whole does.
 -- Assumes nothing.
-use mathlib.Core.Path.{_≡_, refl, sym, ap, _∙_}
+use mathlib.Core.Path.{_≡_, refl, _∙_}
 use Prim.Native.Nat.{_≤_}
 use lib.ListN.{length}
-use Rattle.fields.specs.Number.{bytes-all}
 use Rattle.fields.specs.Reader.{passAt}
 use Rattle.fields.specs.Got.{passed}
 use Rattle.dat_format.specs.Pieces.{times}
@@ -11,6 +10,7 @@ use Rattle.dat_format.specs.Decode.{system}
 use Rattle.dat_format.specs.ExactSections.{exact-system}
 use Rattle.dat_read.specs.Steps.{stepMeaning}
 use Rattle.dat_read.proofs.PieceLaws.{times-end, times-stop, times-turn}
+use Rattle.fields.specs.Given.{bytes-given, at-case}
 use borrow.Author.Needs.{needs}
 use native.Mathlib.Omega.{arith}
 use Rattle.dat_read.proofs.sections.systems_from.Statement.{statement}
@@ -30,24 +30,30 @@ system-at-requires c κs = omega arith
 
 returns : tie.Need-returns Inv-loop μ-loop
 returns c =
-    let a = c .before .before .before .before .before .before .before .args in
-    let l = c .before .before .before .before .before .loop in
-    times-stop (system (a .order)) (a .s .now) (l .at) (l .left) (omega arith) (c .before .k .given .0 .0) (ap stepMeaning (sym (c .before .k .given .1)) ∙ c .before .before .before .system-at .ensures) ∙ l .inv .1
+    let at-loop : tie.At-loop Inv-loop μ-loop = search in
+    let start : tie.Start Inv-loop μ-loop = search in
+    let a = start .args in
+    let l = at-loop .loop in
+    times-stop (system (a .order)) (a .s .now) (l .at) (l .left) (omega arith) (c .before .k .given .0 .0) (at-case stepMeaning (c .before .k .given .1) (search)) ∙ l .inv .1
 
 loop-less : tie.Need-loop-less Inv-loop μ-loop
 loop-less c = omega arith
 
 loop-again : tie.Need-loop-again Inv-loop μ-loop
 loop-again c =
-    let a = c .before .before .before .before .before .before .before .args in
-    let l = c .before .before .before .before .before .loop in
-    let b = bytes-all (a .s .now) (λ i. omega (arith, c .before .before .before .before .before .before .shared-slice-known .given i)) in
-    let g = passed (exact-system (a .order)) (a .s .now) b (l .at) (l .inv .0) (c .before .next .given .0 .0) (ap stepMeaning (sym (c .before .next .given .1)) ∙ c .before .before .before .system-at .ensures) in
+    let at-loop : tie.At-loop Inv-loop μ-loop = search in
+    let at-shared-slice-known : tie.After-shared-slice-known Inv-loop μ-loop = search in
+    let start : tie.Start Inv-loop μ-loop = search in
+    let a = start .args in
+    let l = at-loop .loop in
+    let b = bytes-given (a .s .now) (at-shared-slice-known .shared-slice-known .given) in
+    let g = passed (exact-system (a .order)) (a .s .now) b (l .at) (l .inv .0) (c .before .next .given .0 .0) (at-case stepMeaning (c .before .next .given .1) (search)) in
     (g .inside, times-turn (system (a .order)) (a .s .now) (l .at) _ _ (l .left) (omega arith) (c .before .next .given .0 .0) g ∙ l .inv .1)
 
 returns-2 : tie.Need-returns-2 Inv-loop μ-loop
 returns-2 c =
-    let a = c .before .before .before .args in
+    let start : tie.Start Inv-loop μ-loop = search in
+    let a = start .args in
     let l = c .before .loop in
     times-end (system (a .order)) (a .s .now) (l .at) (l .left) (omega arith) (l .inv .0) ∙ l .inv .1
 

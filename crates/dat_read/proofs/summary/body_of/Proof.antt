@@ -8,12 +8,14 @@ use Rattle.dat_read.proofs.summary.body_of.Tie as tie
 
 returns : tie.Need-returns
 returns c =
-    let a = c .before .before .before .args in
+    let start : tie.Start = search in
+    let a = start .args in
     c .span .ensures ∙ ap (λ i. partTo i (a .total)) (add-zero (a .end)) ∙ ap (λ e. bodyOf e (a .place) (a .end) (a .total)) (sym (c .before .enum-told .given .1))
 
 returns-2 : tie.Need-returns-2
 returns-2 c =
-    let a = c .before .before .before .args in
+    let start : tie.Start = search in
+    let a = start .args in
     c .span2 .ensures ∙ ap (λ i. partTo i (a .end)) (add-zero (a .place)) ∙ ap (λ e. bodyOf e (a .place) (a .end) (a .total)) (sym (c .before .enum-told2 .given .1))
 
 pub body-of-spec : {M : Type 1} → statement M
