@@ -10,10 +10,10 @@ returns : tie.Need-returns
 returns c = ap foundPlace (ap frameMeaning (sym (c .enum-told .given .1)) ∙ c .before .before .nth-head .ensures)
 
 returns-2 : tie.Need-returns-2
-returns-2 c = ap foundPlace (ap frameMeaning (sym (c .before .k .given .1)) ∙ c .before .before .before .nth-head .ensures)
+returns-2 c = let at-nth-head : tie.After-nth-head = search in ap foundPlace (ap frameMeaning (sym (c .before .k .given .1)) ∙ at-nth-head .nth-head .ensures)
 
 returns-3 : tie.Need-returns-3
-returns-3 c = ap foundPlace (ap frameMeaning (sym (c .before .head .given .1)) ∙ c .before .before .before .nth-head .ensures)
+returns-3 c = let at-nth-head : tie.After-nth-head = search in ap foundPlace (ap frameMeaning (sym (c .before .head .given .1)) ∙ at-nth-head .nth-head .ensures)
 
 pub frame-in-spec : {M : Type 1} → statement M
 frame-in-spec =

@@ -1,7 +1,7 @@
 -- `gdb_pair::pair_place` meets its contract: the join's refusal, or frame n by the first count.
 -- Assumes nothing.
 use mathlib.Core.Path.{_≡_, sym, ap, _∙_}
-use Rattle.fields.specs.Number.{Bytes, bytes-all}
+use Rattle.fields.specs.Number.{Bytes}
 use Rattle.fields.specs.Answer.{accepted}
 use Rattle.gdb_read.specs.Steps.{summarySaid}
 use Rattle.gdb_frames.specs.Questions.{placeAnswer}
@@ -9,57 +9,72 @@ use Rattle.gdb_join.specs.Joined.{pairMeaning, pairSeen}
 use Rattle.gdb_join.specs.JoinLaws.{pair-refused}
 use Rattle.gdb_pair.specs.Pair.{first, second, onSide}
 use Rattle.gdb_pair.specs.PairLaws.{place-refused, first-told, second-told}
+use Rattle.fields.specs.Given.{bytes-given, at-case}
 use borrow.Author.Needs.{needs}
 use native.Mathlib.Omega.{arith}
 use Rattle.gdb_pair.proofs.pair_place.Statement.{statement}
 use Rattle.gdb_pair.proofs.pair_place.Tie as tie
 
 first-bytes : (c : tie.After-shared-slice-known) → Bytes (c .before .args .first .now)
-first-bytes c = bytes-all (c .before .args .first .now) (λ i. omega (arith, c .shared-slice-known .given i))
+first-bytes c = bytes-given (c .before .args .first .now) (c .shared-slice-known .given)
 
 second-bytes : (c : tie.After-shared-slice-known2) → Bytes (c .before .before .args .second .now)
-second-bytes c = bytes-all (c .before .before .args .second .now) (λ i. omega (arith, c .shared-slice-known2 .given i))
+second-bytes c = bytes-given (c .before .before .args .second .now) (c .shared-slice-known2 .given)
 
 -- the pair as it was read
 paired : (h : tie.After-a) → accepted (summarySaid (h .a .given .0 .0), summarySaid (h .a .given .0 .1 .0)) ≡ pairSeen (h .before .before .before .before .before .args .settings) (h .before .before .before .before .before .args .first .now) (h .before .before .before .before .before .args .second .now)
-paired h = ap pairMeaning (sym (h .a .given .1)) ∙ h .before .before .joinable .ensures
+paired h = at-case pairMeaning (h .a .given .1) (search)
 
 returns : tie.Need-returns
 returns c =
-    let a = c .before .before .before .before .before .before .args in
+    let start : tie.Start = search in
+    let a = start .args in
     let g = c .before .k .given in
     place-refused (a .settings) (a .first .now) (a .second .now) (a .n) (g .0 .0)
-    (pair-refused (a .settings) (a .first .now) (a .second .now) (g .0 .0) (first-bytes (c .before .before .before .before .before)) (second-bytes (c .before .before .before .before)) (ap pairMeaning (sym (g .1)) ∙ c .before .before .before .joinable .ensures))
+    (pair-refused (a .settings) (a .first .now) (a .second .now) (g .0 .0) (first-bytes (search)) (second-bytes (search)) (at-case pairMeaning (g .1) (search)))
 
 returns-2 : tie.Need-returns-2
 returns-2 c =
-    let h = c .before .before .before .before .before .before in
-    let a = h .before .before .before .before .before .args in
+    let at-frame-in : tie.After-frame-in = search in
+    let at-then1 : tie.Then1 = search in
+    let start : tie.Start = search in
+    let h : tie.After-a = search in
+    let a = start .args in
     ap (λ x. onSide first (placeAnswer x)) (sym (c .before .k2 .given .1))
-    ∙ first-told (a .settings) (a .first .now) (a .second .now) (first-bytes (h .before .before .before .before)) (second-bytes (h .before .before .before)) _ _ (paired h) (a .n) (c .before .before .before .before .if1 .taken) _ (c .before .before .before .frame-in .ensures)
+    ∙ first-told (a .settings) (a .first .now) (a .second .now) (first-bytes (search)) (second-bytes (search)) _ _ (paired h) (a .n) (at-then1 .if1 .taken) _ (at-frame-in .frame-in .ensures)
 
 returns-3 : tie.Need-returns-3
 returns-3 c =
-    let h = c .before .before .before .before .before .before in
-    let a = h .before .before .before .before .before .args in
+    let at-frame-in : tie.After-frame-in = search in
+    let at-then1 : tie.Then1 = search in
+    let start : tie.Start = search in
+    let h : tie.After-a = search in
+    let a = start .args in
     ap (λ x. onSide first (placeAnswer x)) (sym (c .before .place .given .1))
-    ∙ first-told (a .settings) (a .first .now) (a .second .now) (first-bytes (h .before .before .before .before)) (second-bytes (h .before .before .before)) _ _ (paired h) (a .n) (c .before .before .before .before .if1 .taken) _ (c .before .before .before .frame-in .ensures)
+    ∙ first-told (a .settings) (a .first .now) (a .second .now) (first-bytes (search)) (second-bytes (search)) _ _ (paired h) (a .n) (at-then1 .if1 .taken) _ (at-frame-in .frame-in .ensures)
 
 returns-4 : tie.Need-returns-4
 returns-4 c =
-    let h = c .before .before .before .before .before .before in
-    let a = h .before .before .before .before .before .args in
+    let at-frame-in2 : tie.After-frame-in2 = search in
+    let at-else1 : tie.Else1 = search in
+    let start : tie.Start = search in
+    let h : tie.After-a = search in
+    let a = start .args in
     ap (λ x. onSide second (placeAnswer x)) (sym (c .before .k3 .given .1))
-    ∙ second-told (a .settings) (a .first .now) (a .second .now) (first-bytes (h .before .before .before .before)) (second-bytes (h .before .before .before)) _ _ (paired h) (a .n) (omega (arith, c .before .before .before .before .if1 .left)) _ (c .before .before .before .frame-in2 .ensures)
+    ∙ second-told (a .settings) (a .first .now) (a .second .now) (first-bytes (search)) (second-bytes (search)) _ _ (paired h) (a .n) (omega (arith, at-else1 .if1 .left)) _ (at-frame-in2 .frame-in2 .ensures)
 
 returns-5 : tie.Need-returns-5
 returns-5 c =
-    let h = c .before .before .before .before .before .before in
-    let a = h .before .before .before .before .before .args in
+    let at-frame-in2 : tie.After-frame-in2 = search in
+    let at-else1 : tie.Else1 = search in
+    let start : tie.Start = search in
+    let h : tie.After-a = search in
+    let a = start .args in
     ap (λ x. onSide second (placeAnswer x)) (sym (c .before .place2 .given .1))
-    ∙ second-told (a .settings) (a .first .now) (a .second .now) (first-bytes (h .before .before .before .before)) (second-bytes (h .before .before .before)) _ _ (paired h) (a .n) (omega (arith, c .before .before .before .before .if1 .left)) _ (c .before .before .before .frame-in2 .ensures)
+    ∙ second-told (a .settings) (a .first .now) (a .second .now) (first-bytes (search)) (second-bytes (search)) _ _ (paired h) (a .n) (omega (arith, at-else1 .if1 .left)) _ (at-frame-in2 .frame-in2 .ensures)
 
 pub pair-place-spec : {M : Type 1} → statement M
 pair-place-spec =
     tie.close
-    (tie.spec (λ c κs. search needs) (λ c. search needs) (λ c. search needs) (λ c κs. search needs) (λ c. search needs) (λ c. search needs) (λ c κs. search needs) (λ c. search needs) (λ c. search needs) returns returns-2 returns-3 returns-4 returns-5)
+    (tie.spec (λ c κs. search needs) (λ c. search needs) (λ c. search needs) (λ c κs. search needs) (λ c. search needs) (λ c. search needs)
+    (λ c κs. search needs) (λ c. search needs) (λ c. search needs) returns returns-2 returns-3 returns-4 returns-5)
