@@ -5,7 +5,7 @@ use mathlib.Core.List.{List, _++_}
 use Prim.Native.Nat.{ℕ, _+_, _-_, _≤_}
 use lib.ListN.{length, take, drop, length-drop}
 use lib.Seq.{take-all}
-use Rattle.fields.specs.Number.{Bytes, bytes-all}
+use Rattle.fields.specs.Number.{Bytes}
 use Rattle.fields.specs.Answer.{accepted}
 use Rattle.gdb_read.specs.Steps.{summarySaid}
 use Rattle.gdb_join.specs.Join.{joinOf}
@@ -13,6 +13,7 @@ use Rattle.fields.specs.Output.{lent-written, lent-full, lent-refused}
 use Rattle.gdb_join.specs.Joined.{pairMeaning}
 use Rattle.gdb_join.specs.JoinLaws.{pair-refused, pair-joins}
 use Rattle.fields.specs.Copies.{first-over, more-long, more-out}
+use Rattle.fields.specs.Given.{bytes-given, at-case}
 use borrow.Author.Needs.{needs}
 use native.Mathlib.Omega.{arith}
 use Rattle.gdb_join.proofs.join.Statement.{statement}
@@ -22,10 +23,10 @@ abbrev begun : tie.After-o → tie.Start
 begun h = h .before .before .before .before .before .before
 
 first-bytes : (h : tie.After-shared-slice-known) → Bytes (h .before .args .first .now)
-first-bytes h = bytes-all (h .before .args .first .now) (λ i. omega (arith, h .shared-slice-known .given i))
+first-bytes h = bytes-given (h .before .args .first .now) (h .shared-slice-known .given)
 
 second-bytes : (h : tie.After-shared-slice-known2) → Bytes (h .before .before .args .second .now)
-second-bytes h = bytes-all (h .before .before .args .second .now) (λ i. omega (arith, h .shared-slice-known2 .given i))
+second-bytes h = bytes-given (h .before .before .args .second .now) (h .shared-slice-known2 .given)
 
 -- where the second file's frames start
 abbrev start : tie.After-o → ℕ
@@ -39,7 +40,7 @@ joins h =
     let a = begun h .args in
     let g = h .o .given in
     pair-joins (a .settings) (a .first .now) (a .second .now) (summarySaid (g .0 .0)) (summarySaid (g .0 .1 .0)) (first-bytes (search)) (second-bytes (search))
-    (ap pairMeaning (sym (g .1)) ∙ h .before .before .joinable .ensures)
+    (at-case pairMeaning (g .1) (search))
 
 -- there is room for both
 room : (c : tie.Else2) → let h = c .before .before .before in let a = begun h .args in
@@ -69,7 +70,8 @@ returns-2 c = let j = joins (search) in lent-full _ _ _ (j .0) (omega (arith, j 
 
 returns-3 : tie.Need-returns-3
 returns-3 c =
-    let e = ap pairMeaning (sym (c .before .n .given .1)) ∙ c .before .before .before .joinable .ensures in
+    let at-joinable : tie.After-joinable = search in
+    let e = ap pairMeaning (sym (c .before .n .given .1)) ∙ at-joinable .joinable .ensures in
     lent-refused _ _ _ (pair-refused _ _ _ _ (first-bytes (search)) (second-bytes (search)) e)
 
 sub-if2-2 : tie.Need-sub-if2-2
