@@ -3,11 +3,11 @@
 use mathlib.Core.Path.{_≡_, refl, sym, ap, _∙_}
 use Prim.Native.Nat.{_≤_, _-_, _+_}
 use lib.ListN.{length, drop}
-use Rattle.fields.specs.Number.{bytes-all}
 use Rattle.gdb_read.specs.Steps.{headMeaning, frameMeaning}
 use Rattle.gdb_cut.specs.Selection.{meaning}
 use Rattle.gdb_cut.specs.Kept.{kept, Heads}
 use Rattle.gdb_cut.proofs.Walk.{Passed, passed, kept-end, heads-never, kept-no, length-yes}
+use Rattle.fields.specs.Given.{bytes-given, at-case}
 use borrow.Author.Needs.{needs}
 use native.Mathlib.Omega.{arith}
 use Rattle.gdb_cut.proofs.cut_length.Statement.{statement}
@@ -25,59 +25,71 @@ abbrev μ-loop : tie.MeasureT-loop
 met : (c : tie.After-head Inv-loop μ-loop)
     → Passed (c .before .before .before .before .before .args .format) (c .before .before .before .before .before .args .file .now) (c .before .before .before .loop .at) (headMeaning (c .head .given .0 .0)) (c .head .given .0 .1 .0)
 met c =
-    let a = c .before .before .before .before .before .args in
-    let l = c .before .before .before .loop in
+    let at-loop : tie.At-loop Inv-loop μ-loop = search in
+    let at-shared-slice-known : tie.After-shared-slice-known Inv-loop μ-loop = search in
+    let start′ : tie.Start Inv-loop μ-loop = search in
+    let a = start′ .args in
+    let l = at-loop .loop in
     let g = c .head .given in
-    passed (a .format) (a .file .now) (l .at) (bytes-all (a .file .now) (λ i. omega (arith, c .before .before .before .before .shared-slice-known .given i))) (l .inv .1) (headMeaning (g .0 .0)) (g .0 .1 .0)
-    (ap frameMeaning (sym (g .1)) ∙ c .before .before .head-at .ensures)
+    passed (a .format) (a .file .now) (l .at) (bytes-given (a .file .now) (at-shared-slice-known .shared-slice-known .given)) (l .inv .1) (headMeaning (g .0 .0)) (g .0 .1 .0)
+    (at-case frameMeaning (g .1) (search))
 
 loop-holds : tie.Need-loop-holds Inv-loop μ-loop
 loop-holds c = (c .before .pre .0, c .before .pre .1, omega arith, refl)
 
 loop-again : tie.Need-loop-again Inv-loop μ-loop
 loop-again c =
-    let p = met (c .before .before .before) in
-    let l = c .before .before .before .before .before .before .loop in
-    let a = c .before .before .before .before .before .before .before .before .args in
+    let at-loop : tie.At-loop Inv-loop μ-loop = search in
+    let start′ : tie.Start Inv-loop μ-loop = search in
+    let p = met (search) in
+    let l = at-loop .loop in
+    let a = start′ .args in
     let e = length-yes p (meaning (a .selection)) (sym (c .before .is-selected .ensures) ∙ c .if1 .taken) in
     (p .inside, p .rest, omega (arith, p .past), omega (arith, e, l .inv .3))
 
 loop-again-2 : tie.Need-loop-again-2 Inv-loop μ-loop
 loop-again-2 c =
-    let p = met (c .before .before .before) in
-    let l = c .before .before .before .before .before .before .loop in
-    let a = c .before .before .before .before .before .before .before .before .args in
+    let at-loop : tie.At-loop Inv-loop μ-loop = search in
+    let start′ : tie.Start Inv-loop μ-loop = search in
+    let p = met (search) in
+    let l = at-loop .loop in
+    let a = start′ .args in
     let e = ap length (kept-no p (meaning (a .selection)) (sym (c .before .is-selected .ensures) ∙ c .if1 .left)) in
     (p .inside, p .rest, omega (arith, p .past), omega (arith, e, l .inv .3))
 
 returns : tie.Need-returns Inv-loop μ-loop
 returns c =
-    let l = c .before .before .before .loop in
-    let a = c .before .before .before .before .before .args in
-    omega (arith, l .inv .3, ap length (kept-end (a .format) (a .file .now) (l .at) (meaning (a .selection)) (ap frameMeaning (sym (c .enum-told .given .1)) ∙ c .before .before .head-at .ensures)))
+    let at-loop : tie.At-loop Inv-loop μ-loop = search in
+    let start′ : tie.Start Inv-loop μ-loop = search in
+    let l = at-loop .loop in
+    let a = start′ .args in
+    omega (arith, l .inv .3, ap length (kept-end (a .format) (a .file .now) (l .at) (meaning (a .selection)) (at-case frameMeaning (c .enum-told .given .1) (search))))
 
 returns-2 : tie.Need-returns-2 Inv-loop μ-loop
 returns-2 c =
-    let l = c .before .before .before .loop in
-    let a = c .before .before .before .before .before .args in
-    heads-never (a .format) (a .file .now) (l .at) (c .enum-told2 .given .0 .0) (l .inv .1) (ap frameMeaning (sym (c .enum-told2 .given .1)) ∙ c .before .before .head-at .ensures)
+    let at-loop : tie.At-loop Inv-loop μ-loop = search in
+    let start′ : tie.Start Inv-loop μ-loop = search in
+    let l = at-loop .loop in
+    let a = start′ .args in
+    heads-never (a .format) (a .file .now) (l .at) (c .enum-told2 .given .0 .0) (l .inv .1) (at-case frameMeaning (c .enum-told2 .given .1) (search))
 
 is-selected-requires : tie.Need-is-selected-requires Inv-loop μ-loop
-is-selected-requires c κs = c .before .before .before .before .before .before .pre .2
+is-selected-requires c κs = let start′ : tie.Start Inv-loop μ-loop = search in start′ .pre .2
 
 sub-len : tie.Need-sub-len Inv-loop μ-loop
-sub-len c = let p = met (c .before .before .before) in omega (arith, p .past)
+sub-len c = let p = met (search) in omega (arith, p .past)
 
 add-len : tie.Need-add-len Inv-loop μ-loop
-add-len c = let p = met (c .before .before .before) in omega (arith, p .past, p .inside)
+add-len c = let p = met (search) in omega (arith, p .past, p .inside)
 
 loop-less : tie.Need-loop-less Inv-loop μ-loop
-loop-less c = let p = met (c .before .before .before) in omega (arith, p .past, p .inside)
+loop-less c = let p = met (search) in omega (arith, p .past, p .inside)
 
 loop-less-2 : tie.Need-loop-less-2 Inv-loop μ-loop
-loop-less-2 c = let p = met (c .before .before .before) in omega (arith, p .past, p .inside)
+loop-less-2 c = let p = met (search) in omega (arith, p .past, p .inside)
 
 pub cut-length-spec : {M : Type 1} → statement M
 cut-length-spec =
     tie.close
-    (tie.spec Inv-loop μ-loop loop-holds (λ c κs. search needs) (λ c. search needs) returns (λ c. search needs) returns-2 (λ c. search needs) is-selected-requires sub-len add-len loop-less loop-again loop-less-2 loop-again-2)
+    (tie.spec Inv-loop μ-loop loop-holds (λ c κs. search needs) (λ c. search needs) returns (λ c. search needs) returns-2 (λ c. search needs)
+    is-selected-requires sub-len add-len loop-less loop-again loop-less-2 loop-again-2)

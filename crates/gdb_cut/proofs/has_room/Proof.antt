@@ -1,9 +1,9 @@
 -- `gdb_cut::has_room` meets its contract. Assumes nothing.
 use mathlib.Core.Path.{ap}
 use lib.Dec.{leb}
-use Rattle.fields.specs.Number.{bytes-all}
 use Rattle.gdb_cut.specs.Selection.{meaning}
 use Rattle.gdb_cut.proofs.Cuts.{room-for-file}
+use Rattle.fields.specs.Given.{bytes-given}
 use borrow.Author.Needs.{needs}
 use native.Mathlib.Omega.{arith}
 use Rattle.gdb_cut.proofs.has_room.Statement.{statement}
@@ -13,10 +13,10 @@ returns : tie.Need-returns
 returns c =
     let a = c .before .before .args in
     let p = c .before .before .pre in
-    room-for-file (a .format) (meaning (a .selection)) (a .file .now) (a .start) (a .room) (bytes-all (a .file .now) (λ i. omega (arith, c .before .shared-slice-known .given i))) (p .0) (p .1) (omega arith)
+    room-for-file (a .format) (meaning (a .selection)) (a .file .now) (a .start) (a .room) (bytes-given (a .file .now) (c .before .shared-slice-known .given)) (p .0) (p .1) (omega arith)
 
 returns-2 : tie.Need-returns-2
-returns-2 c = ap (λ n. leb n (c .before .before .before .args .room)) (c .cut-length .ensures)
+returns-2 c = let start : tie.Start = search in ap (λ n. leb n (start .args .room)) (c .cut-length .ensures)
 
 pub has-room-spec : {M : Type 1} → statement M
 has-room-spec =

@@ -23,7 +23,7 @@ loop-holds c = (omega arith, refl)
 
 returns : tie.Need-returns Inv-loop μ-loop
 returns c =
-    let h = c .before .before .before .before .before .before in
+    let h : tie.At-loop Inv-loop μ-loop = search in
     let l = h .loop in
     let a = h .before .args in
     let long : length (a .t1 .ranges) ≡ 8 = simp length-map at (h .before .good .0 .1 .1 .0 .1 .0 .1) in
@@ -31,7 +31,7 @@ returns c =
 
 loop-again : tie.Need-loop-again Inv-loop μ-loop
 loop-again c =
-    let h = c .before .before .before .before in
+    let h : tie.At-loop Inv-loop μ-loop = search in
     let l = h .loop in
     let a = h .before .args in
     let long : length (a .t1 .ranges) ≡ 8 = simp length-map at (h .before .good .0 .1 .1 .0 .1 .0 .1) in (

@@ -9,7 +9,7 @@ returns : tie.Need-returns
 returns c = sense-in _ _ (sym (c .before .in-some .ensures) ∙ c .if1 .taken)
 
 returns-2 : tie.Need-returns-2
-returns-2 c = sense-out (c .before .before .before .args .selection .keep) _ (sym (c .before .before .in-some .ensures) ∙ c .before .if1 .left)
+returns-2 c = let start : tie.Start = search in sense-out (start .args .selection .keep) _ (sym (c .before .before .in-some .ensures) ∙ c .before .if1 .left)
 
 pub is-selected-spec : {M : Type 1} → statement M
 is-selected-spec =

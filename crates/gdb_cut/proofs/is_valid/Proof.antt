@@ -34,7 +34,7 @@ loop-holds c = (omega arith, refl)
 
 returns-2 : tie.Need-returns-2 Inv-loop μ-loop
 returns-2 c =
-    let h = c .before .before .before .before in
+    let h : tie.At-loop Inv-loop μ-loop = search in
     let l = h .loop in
     let a = h .before .before .args in
     let long : length (a .t1 .ranges) ≡ 8 = simp length-map at (h .before .before .good .0 .1 .1 .0 .1 .0 .1) in
@@ -43,7 +43,7 @@ returns-2 c =
 
 loop-again : tie.Need-loop-again Inv-loop μ-loop
 loop-again c =
-    let h = c .before .before .before .before in
+    let h : tie.At-loop Inv-loop μ-loop = search in
     let l = h .loop in
     let a = h .before .before .args in
     let long : length (a .t1 .ranges) ≡ 8 = simp length-map at (h .before .before .good .0 .1 .1 .0 .1 .0 .1) in

@@ -6,12 +6,12 @@ use mathlib.Core.List.{List, _++_, append-assoc, append-nil}
 use lib.ListN.{length, take, drop, length-take, length-drop}
 use lib.Seq.{length-take-le}
 use Prim.Native.Nat.{ℕ}
-use Rattle.fields.specs.Number.{bytes-all}
 use Rattle.gdb_read.specs.Steps.{headMeaning, frameMeaning}
 use Rattle.gdb_cut.specs.Selection.{meaning}
 use Rattle.gdb_cut.specs.Kept.{kept, Heads}
 use Rattle.gdb_cut.proofs.Walk.{Passed, passed, kept-end, heads-never, kept-yes, kept-no, part-long, length-yes}
 use Rattle.fields.specs.Copies.{first-out, first-rest, first-long, out-long, lengths, more-long, more-out}
+use Rattle.fields.specs.Given.{bytes-given, at-case}
 use borrow.Author.Needs.{needs}
 use native.Mathlib.Omega.{arith}
 use Rattle.gdb_cut.proofs.write_cut.Statement.{statement}
@@ -31,7 +31,7 @@ Begun h = h .before .before .before .before .before .before .before .before
 
 loop-holds : tie.Need-loop-holds Inv-loop μ-loop
 loop-holds c =
-    let q = c .before .before .before .before .before .before .before in
+    let q : tie.Start Inv-loop μ-loop = search in
     let k = c .before .before .copy in
     let w : List ℕ = take (q .args .start) (q .args .file .now) in
     let n : length w ≡ q .args .start = length-take-le (q .args .start) (q .args .file .now) (q .pre .0) in
@@ -41,24 +41,29 @@ loop-holds c =
 met : (c : tie.After-head Inv-loop μ-loop)
     → Passed (Begun (c .before .before .before) .args .format) (Begun (c .before .before .before) .args .file .now) (c .before .before .before .loop .at) (headMeaning (c .head .given .0 .0)) (c .head .given .0 .1 .0)
 met c =
-    let h = c .before .before .before in
+    let at-shared-slice-known : tie.After-shared-slice-known Inv-loop μ-loop = search in
+    let h : tie.At-loop Inv-loop μ-loop = search in
     let a = (Begun h) .args in
     let l = h .loop in
     let g = c .head .given in
-    passed (a .format) (a .file .now) (l .at) (bytes-all (a .file .now) (λ i. omega (arith, h .before .before .before .before .before .before .before .shared-slice-known .given i))) (l .inv .1) (headMeaning (g .0 .0)) (g .0 .1 .0)
-    (ap frameMeaning (sym (g .1)) ∙ c .before .before .head-at .ensures)
+    passed (a .format) (a .file .now) (l .at) (bytes-given (a .file .now) (at-shared-slice-known .shared-slice-known .given)) (l .inv .1) (headMeaning (g .0 .0)) (g .0 .1 .0)
+    (at-case frameMeaning (g .1) (search))
 
 loop-again : tie.Need-loop-again Inv-loop μ-loop
 loop-again c =
-    let h = c .before .before .before .before .before .before .before .before .before .before .before in
+    let at-then1 : tie.Then1 Inv-loop μ-loop = search in
+    let at-is-selected : tie.After-is-selected Inv-loop μ-loop = search in
+    let at-head : tie.After-head Inv-loop μ-loop = search in
+    let at-copy : tie.After-copy Inv-loop μ-loop = search in
+    let h : tie.At-loop Inv-loop μ-loop = search in
     let a = (Begun h) .args in
-    let p = met (c .before .before .before .before .before .before .before .before) in
-    let y = sym (c .before .before .before .before .before .before .is-selected .ensures) ∙ c .before .before .before .before .before .if1 .taken in
+    let p = met (search) in
+    let y = sym (at-is-selected .is-selected .ensures) ∙ at-then1 .if1 .taken in
     let l = h .loop in
-    let n = c .before .before .before .before .before .before .before .before .head .given .0 .1 .0 - l .at in
+    let n = at-head .head .given .0 .1 .0 - l .at in
     let f : List ℕ = take n (drop (l .at) (a .file .now)) in
     let long : length f ≡ n = part-long p in
-    let k = h .before .before .before .copy in
+    let k = at-copy .copy in
     let m = c .before .before .copy2 in (
       p .inside,
       p .rest,
@@ -70,8 +75,8 @@ loop-again c =
 
 loop-again-2 : tie.Need-loop-again-2 Inv-loop μ-loop
 loop-again-2 c =
-    let h = c .before .before .before .before .before .before in
-    let p = met (c .before .before .before) in
+    let h : tie.At-loop Inv-loop μ-loop = search in
+    let p = met (search) in
     let l = h .loop in
     let e = kept-no p (meaning (Begun h .args .selection)) (sym (c .before .is-selected .ensures) ∙ c .if1 .left) in
     (p .inside, p .rest, l .inv .2, l .inv .3, l .inv .4, ap (λ x. l .inv .2 ++ x) (sym e) ∙ l .inv .5)
@@ -82,10 +87,11 @@ room : (h : tie.At-loop Inv-loop μ-loop)
     ≡ Begun h .args .start + length (kept (Begun h .args .format) (meaning (Begun h .args .selection)) (drop (Begun h .args .start) (Begun h .args .file .now))))
     × (length (h .loop .out) ≡ length (Begun h .args .out .now))
 room h =
+    let at-copy : tie.After-copy Inv-loop μ-loop = search in
     let q = Begun h in
     let a = q .args in
     let l = h .loop in
-    let k = h .before .before .before .copy in
+    let k = at-copy .copy in
     let w : List ℕ = take (a .start) (a .file .now) in
     let n : length w ≡ a .start = length-take-le (a .start) (a .file .now) (q .pre .0) in
     let t = lengths (l .inv .2) (k .last .1 .0) (l .out) (l .len) (l .inv .3) (l .inv .4) _ w _ (l .inv .5) in
@@ -94,15 +100,16 @@ room h =
 
 returns : tie.Need-returns Inv-loop μ-loop
 returns c =
-    let h = c .before .before .before in
+    let at-copy : tie.After-copy Inv-loop μ-loop = search in
+    let h : tie.At-loop Inv-loop μ-loop = search in
     let q = Begun h in
     let a = q .args in
     let l = h .loop in
-    let k = h .before .before .before .copy in
+    let k = at-copy .copy in
     let s = meaning (a .selection) in
     let w : List ℕ = take (a .start) (a .file .now) in
     let n : length w ≡ a .start = length-take-le (a .start) (a .file .now) (q .pre .0) in
-    let e = kept-end (a .format) (a .file .now) (l .at) s (ap frameMeaning (sym (c .enum-told .given .1)) ∙ c .before .before .head-at .ensures) in
+    let e = kept-end (a .format) (a .file .now) (l .at) s (at-case frameMeaning (c .enum-told .given .1) (search)) in
     let t : l .len ≡ a .start + length (kept (a .format) s (drop (a .start) (a .file .now))) = omega (arith, (room h) .0, ap length e) in (
       t,
       l .inv .4
@@ -112,9 +119,9 @@ returns c =
 
 returns-2 : tie.Need-returns-2 Inv-loop μ-loop
 returns-2 c =
-    let h = c .before .before .before in
+    let h : tie.At-loop Inv-loop μ-loop = search in
     let a = (Begun h) .args in
-    heads-never (a .format) (a .file .now) (h .loop .at) (c .enum-told2 .given .0 .0) (h .loop .inv .1) (ap frameMeaning (sym (c .enum-told2 .given .1)) ∙ c .before .before .head-at .ensures)
+    heads-never (a .format) (a .file .now) (h .loop .at) (c .enum-told2 .given .0 .0) (h .loop .inv .1) (at-case frameMeaning (c .enum-told2 .given .1) (search))
 
 slice-aggregate-copy : tie.Need-slice-aggregate-copy Inv-loop μ-loop
 slice-aggregate-copy c = let q : tie.Start Inv-loop μ-loop = search in sym (length-take-le (q .args .start) (q .args .file .now) (q .pre .0))
@@ -123,55 +130,60 @@ copy-requires : tie.Need-copy-requires Inv-loop μ-loop
 copy-requires c κs = let q : tie.Start Inv-loop μ-loop = search in omega (arith, length-take-le (q .args .start) (q .args .file .now) (q .pre .0), q .pre .3)
 
 same-length : tie.Need-same-length Inv-loop μ-loop
-same-length c = (room (c .before .before .before)) .1
+same-length c = (room (search)) .1
 
 same-length-2 : tie.Need-same-length-2 Inv-loop μ-loop
-same-length-2 c = (room (c .before .before .before)) .1
+same-length-2 c = (room (search)) .1
 
 is-selected-requires : tie.Need-is-selected-requires Inv-loop μ-loop
-is-selected-requires c κs = (Begun (c .before .before .before .before)) .pre .2
+is-selected-requires c κs = (Begun (search)) .pre .2
 
 sub-copy : tie.Need-sub-copy Inv-loop μ-loop
-sub-copy c = omega (arith, (met (c .before .before .before)) .past)
+sub-copy c = omega (arith, (met (search)) .past)
 
 part-copy-start : tie.Need-part-copy-start Inv-loop μ-loop
-part-copy-start c = omega (arith, (met (c .before .before .before)) .past)
+part-copy-start c = omega (arith, (met (search)) .past)
 
 part-copy-end : tie.Need-part-copy-end Inv-loop μ-loop
-part-copy-end c = (met (c .before .before .before)) .inside
+part-copy-end c = (met (search)) .inside
 
 sub-copy-2 : tie.Need-sub-copy-2 Inv-loop μ-loop
-sub-copy-2 c = let h = c .before .before .before .before .before .before .before in omega (arith, room h, (Begun h) .pre .3)
+sub-copy-2 c = let h : tie.At-loop Inv-loop μ-loop = search in omega (arith, room h, (Begun h) .pre .3)
 
 part-copy-start-2 : tie.Need-part-copy-start-2 Inv-loop μ-loop
-part-copy-start-2 c = let h = c .before .before .before .before .before .before .before in omega (arith, room h, (Begun h) .pre .3)
+part-copy-start-2 c = let h : tie.At-loop Inv-loop μ-loop = search in omega (arith, room h, (Begun h) .pre .3)
 
 copy-requires-2 : tie.Need-copy-requires-2 Inv-loop μ-loop
 copy-requires-2 c κs =
-    let h = c .before .before .before .before .before .before .before .before in
+    let at-is-selected : tie.After-is-selected Inv-loop μ-loop = search in
+    let h : tie.At-loop Inv-loop μ-loop = search in
     let q = Begun h in
-    let p = met (c .before .before .before .before .before) in
-    let z = length-yes p (meaning (q .args .selection)) (sym (c .before .before .before .is-selected .ensures) ∙ c .before .before .if1 .taken) in
+    let p = met (search) in
+    let z = length-yes p (meaning (q .args .selection)) (sym (at-is-selected .is-selected .ensures) ∙ c .before .before .if1 .taken) in
     simp (length-take, length-drop) (omega (arith, room h, q .pre .3, z, p .past, p .inside))
 
 sub-len : tie.Need-sub-len Inv-loop μ-loop
-sub-len c = omega (arith, (met (c .before .before .before .before .before .before .before .before)) .past)
+sub-len c = omega (arith, (met (search)) .past)
 
 add-len : tie.Need-add-len Inv-loop μ-loop
 add-len c =
-    let h = c .before .before .before .before .before .before .before .before .before .before .before in
+    let at-then1 : tie.Then1 Inv-loop μ-loop = search in
+    let at-is-selected : tie.After-is-selected Inv-loop μ-loop = search in
+    let h : tie.At-loop Inv-loop μ-loop = search in
     let q = Begun h in
-    let p = met (c .before .before .before .before .before .before .before .before) in
-    let z = length-yes p (meaning (q .args .selection)) (sym (c .before .before .before .before .before .before .is-selected .ensures) ∙ c .before .before .before .before .before .if1 .taken) in
+    let p = met (search) in
+    let z = length-yes p (meaning (q .args .selection)) (sym (at-is-selected .is-selected .ensures) ∙ at-then1 .if1 .taken) in
     omega (arith, room h, q .pre .3, z)
 
 loop-less : tie.Need-loop-less Inv-loop μ-loop
-loop-less c = let p = met (c .before .before .before .before .before .before .before .before) in omega (arith, p .past, p .inside)
+loop-less c = let p = met (search) in omega (arith, p .past, p .inside)
 
 loop-less-2 : tie.Need-loop-less-2 Inv-loop μ-loop
-loop-less-2 c = let p = met (c .before .before .before) in omega (arith, p .past, p .inside)
+loop-less-2 c = let p = met (search) in omega (arith, p .past, p .inside)
 
 pub write-cut-spec : {M : Type 1} → statement M
 write-cut-spec =
     tie.close
-    (tie.spec Inv-loop μ-loop slice-aggregate-copy copy-requires loop-holds (λ c κs. search needs) (λ c. search needs) same-length returns (λ c. search needs) same-length-2 returns-2 (λ c. search needs) is-selected-requires sub-copy part-copy-start part-copy-end sub-copy-2 part-copy-start-2 (λ c. search needs) copy-requires-2 sub-len add-len loop-less loop-again loop-less-2 loop-again-2)
+    (tie.spec Inv-loop μ-loop slice-aggregate-copy copy-requires loop-holds (λ c κs. search needs) (λ c. search needs) same-length returns
+    (λ c. search needs) same-length-2 returns-2 (λ c. search needs) is-selected-requires sub-copy part-copy-start part-copy-end sub-copy-2
+    part-copy-start-2 (λ c. search needs) copy-requires-2 sub-len add-len loop-less loop-again loop-less-2 loop-again-2)
