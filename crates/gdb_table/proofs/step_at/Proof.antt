@@ -8,16 +8,22 @@ use Rattle.gdb_table.proofs.step_at.Tie as tie
 
 returns : tie.Need-returns
 returns c =
+    let at-head-at : tie.After-head-at = search in
     let g = c .before .before .head .given in
-    ap (λ v. stepOn v (g .0 .1 .0)) (c .record-of .ensures) ∙ ap stepTo (ap frameMeaning (sym (g .1)) ∙ c .before .before .before .before .head-at .ensures)
+    ap (λ v. stepOn v (g .0 .1 .0)) (c .record-of .ensures) ∙ ap stepTo (ap frameMeaning (sym (g .1)) ∙ at-head-at .head-at .ensures)
 
 returns-2 : tie.Need-returns-2
-returns-2 c = c .nothing .ensures ∙ ap stepTo (ap frameMeaning (sym (c .before .enum-told .given .1)) ∙ c .before .before .before .head-at .ensures)
+returns-2 c =
+    let at-head-at : tie.After-head-at = search in
+    c .nothing .ensures ∙ ap stepTo (ap frameMeaning (sym (c .before .enum-told .given .1)) ∙ at-head-at .head-at .ensures)
 
 returns-3 : tie.Need-returns-3
-returns-3 c = c .nothing2 .ensures ∙ ap stepTo (ap frameMeaning (sym (c .before .enum-told2 .given .1)) ∙ c .before .before .before .head-at .ensures)
+returns-3 c =
+    let at-head-at : tie.After-head-at = search in
+    c .nothing2 .ensures ∙ ap stepTo (ap frameMeaning (sym (c .before .enum-told2 .given .1)) ∙ at-head-at .head-at .ensures)
 
 pub step-at-spec : {M : Type 1} → statement M
 step-at-spec =
     tie.close
-    (tie.spec (λ c κs. search needs) (λ c. search needs) (λ c κs. search needs) (λ c. search needs) (λ c κs. search needs) (λ c. search needs) (λ c κs. search needs) returns returns-2 returns-3)
+    (tie.spec (λ c κs. search needs) (λ c. search needs) (λ c κs. search needs) (λ c. search needs) (λ c κs. search needs) (λ c. search needs)
+    (λ c κs. search needs) returns returns-2 returns-3)
