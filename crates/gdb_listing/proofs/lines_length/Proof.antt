@@ -8,6 +8,7 @@ use Rattle.fields.specs.Lists.{flat}
 use Rattle.gdb_read.specs.Steps.{Row, headMeaning, frameMeaning}
 use Rattle.gdb_listing.specs.Text.{lineOf}
 use Rattle.gdb_listing.specs.Rows.{rowsFrom, rows-zero, rows-none, rows-fault, rows-on, counted-end, counted-on}
+use Rattle.fields.specs.Given.{at-case}
 use borrow.Author.Needs.{needs}
 use native.Mathlib.Omega.{arith}
 use Rattle.gdb_listing.proofs.lines_length.Statement.{statement}
@@ -66,14 +67,14 @@ returns c =
     let h : Loop = search in
     let a = start h .args in
     counted-end _ (h .loop .len) _ (h .loop .inv)
-    (rows-none (a .format) (a .file .now) (h .loop .at) (h .loop .rest) (ap frameMeaning (sym (c .enum-told .given .1)) ∙ c .before .before .head-at .ensures))
+    (rows-none (a .format) (a .file .now) (h .loop .at) (h .loop .rest) (at-case frameMeaning (c .enum-told .given .1) (search)))
 
 returns-2 : tie.Need-returns-2 Inv-loop μ-loop
 returns-2 c =
     let h : Loop = search in
     let a = start h .args in
     counted-end _ (h .loop .len) _ (h .loop .inv)
-    (rows-fault (a .format) (a .file .now) (h .loop .at) (h .loop .rest) _ (ap frameMeaning (sym (c .enum-told2 .given .1)) ∙ c .before .before .head-at .ensures))
+    (rows-fault (a .format) (a .file .now) (h .loop .at) (h .loop .rest) _ (at-case frameMeaning (c .enum-told2 .given .1) (search)))
 
 returns-3 : tie.Need-returns-3 Inv-loop μ-loop
 returns-3 c =

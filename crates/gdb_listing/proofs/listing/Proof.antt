@@ -1,15 +1,15 @@
 -- `gdb_listing::listing` meets its contract: the limit, the whole reading, and then what is to be written.
 -- Assumes nothing.
-use mathlib.Core.Path.{_≡_, sym, ap, _∙_}
-use Rattle.fields.specs.Number.{Bytes, bytes-all}
+use mathlib.Core.Path.{_≡_}
+use Rattle.fields.specs.Number.{Bytes}
 use Rattle.fields.specs.Answer.{accepted}
 use Rattle.gdb_format.specs.Decode.{read}
 use Rattle.gdb_read.specs.Steps.{readSeen, readingMeaning, summarySaid}
 use Rattle.gdb_listing.specs.Text.{little}
 use Rattle.gdb_listing.specs.Outcome.{lists-same}
 use Rattle.gdb_listing.specs.Table.{listed-long, listed-refused, listed-rows, listed-listable}
+use Rattle.fields.specs.Given.{bytes-given, at-case}
 use borrow.Author.Needs.{needs}
-use native.Mathlib.Omega.{arith}
 use Rattle.gdb_listing.proofs.listing.Statement.{statement}
 use Rattle.gdb_listing.proofs.listing.Tie as tie
 
@@ -22,7 +22,7 @@ returns c =
 
 -- the file as it was read
 file-bytes : (k : tie.After-shared-slice-known) → Bytes (k .before .args .file .now)
-file-bytes k = bytes-all (k .before .args .file .now) (λ i. omega (arith, k .shared-slice-known .given i))
+file-bytes k = bytes-given (k .before .args .file .now) (k .shared-slice-known .given)
 
 returns-2 : tie.Need-returns-2
 returns-2 c =
@@ -30,7 +30,7 @@ returns-2 c =
     let e : tie.Else1 = search in
     let q : tie.Start = search in
     let p = c .before .before .put-refusal2 in
-    lists-same (listed-refused (q .args .file .now) (e .if1 .left) _ (ap readingMeaning (sym (n .n .given .1)) ∙ n .before .before .read .ensures))
+    lists-same (listed-refused (q .args .file .now) (e .if1 .left) _ (at-case readingMeaning (n .n .given .1) (search)))
     (q .args .out .now) (p .result) (p .last .1 .0) (p .ensures)
 
 returns-3 : tie.Need-returns-3
@@ -40,7 +40,7 @@ returns-3 c =
     let q : tie.Start = search in
     let p = c .before .before .put-table in
     lists-same
-    (listed-rows (q .args .file .now) (e .if1 .left) (file-bytes (search)) (summarySaid (o .o .given .0 .0)) (ap readingMeaning (sym (o .o .given .1)) ∙ o .before .before .read .ensures))
+    (listed-rows (q .args .file .now) (e .if1 .left) (file-bytes (search)) (summarySaid (o .o .given .0 .0)) (at-case readingMeaning (o .o .given .1) (search)))
     (q .args .out .now) (p .result) (p .last .1 .1 .1 .1 .0) (p .ensures)
 
 put-table-requires : tie.Need-put-table-requires
@@ -48,7 +48,7 @@ put-table-requires c κs =
     let o : tie.After-o = search in
     let e : tie.Else1 = search in
     let q : tie.Start = search in
-    listed-listable (q .args .file .now) (e .if1 .left) (file-bytes (search)) (summarySaid (o .o .given .0 .0)) (ap readingMeaning (sym (o .o .given .1)) ∙ o .before .before .read .ensures)
+    listed-listable (q .args .file .now) (e .if1 .left) (file-bytes (search)) (summarySaid (o .o .given .0 .0)) (at-case readingMeaning (o .o .given .1) (search))
 
 pub listing-spec : {M : Type 1} → statement M
 listing-spec =

@@ -11,12 +11,16 @@ put-number-requires c κs = let s = c .before .before in omega (arith, ended-len
 
 put-byte-requires : tie.Need-put-byte-requires
 put-byte-requires c κs =
-    let s = c .before .before .before .before .before .before in
-    let p = c .before .before .before .put-number .ensures in
+    let at-put-number : tie.After-put-number = search in
+    let s : tie.Start = search in
+    let p = at-put-number .put-number .ensures in
     omega (arith, ended-length (s .args .n) (s .args .end), s .pre, p .ends, puts-long p)
 
 returns : tie.Need-returns
-returns c = let a = c .before .before .before .before .before .before .before .before .before .args in puts-ended (a .n) (a .end) (c .before .before .before .before .before .before .put-number .ensures) (c .before .before .put-byte .ensures)
+returns c =
+    let at-put-number : tie.After-put-number = search in
+    let start : tie.Start = search in
+    let a = start .args in puts-ended (a .n) (a .end) (at-put-number .put-number .ensures) (c .before .before .put-byte .ensures)
 
 pub put-ended-spec : {M : Type 1} → statement M
 put-ended-spec =

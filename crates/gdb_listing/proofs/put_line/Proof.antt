@@ -8,22 +8,29 @@ use Rattle.gdb_listing.proofs.put_line.Statement.{statement}
 use Rattle.gdb_listing.proofs.put_line.Tie as tie
 
 returns : tie.Need-returns
-returns c = puts-line (headMeaning (c .before .before .before .before .before .before .before .before .before .before .before .before .before .args .head)) (c .before .before .before .before .before .before .before .before .before .before .put-ended .ensures) (c .before .before .before .before .before .before .put-ended2 .ensures) (c .before .before .put-ended3 .ensures)
+returns c =
+    let at-put-ended2 : tie.After-put-ended2 = search in
+    let at-put-ended : tie.After-put-ended = search in
+    let start : tie.Start = search in
+    puts-line (headMeaning (start .args .head)) (at-put-ended .put-ended .ensures) (at-put-ended2 .put-ended2 .ensures) (c .before .before .put-ended3 .ensures)
 
 put-ended-requires : tie.Need-put-ended-requires
 put-ended-requires c κs = let s = c .before .before in omega (arith, line-length (headMeaning (s .args .head)), s .pre)
 
 put-ended-requires-2 : tie.Need-put-ended-requires-2
 put-ended-requires-2 c κs =
-    let s = c .before .before .before .before .before .before in
-    let p = c .before .before .before .put-ended .ensures in
+    let at-put-ended : tie.After-put-ended = search in
+    let s : tie.Start = search in
+    let p = at-put-ended .put-ended .ensures in
     omega (arith, line-length (headMeaning (s .args .head)), s .pre, p .ends, puts-long p)
 
 put-ended-requires-3 : tie.Need-put-ended-requires-3
 put-ended-requires-3 c κs =
-    let s = c .before .before .before .before .before .before .before .before .before .before in
-    let p = c .before .before .before .before .before .before .before .put-ended .ensures in
-    let q = c .before .before .before .put-ended2 .ensures in
+    let at-put-ended2 : tie.After-put-ended2 = search in
+    let at-put-ended : tie.After-put-ended = search in
+    let s : tie.Start = search in
+    let p = at-put-ended .put-ended .ensures in
+    let q = at-put-ended2 .put-ended2 .ensures in
     omega (arith, line-length (headMeaning (s .args .head)), s .pre, p .ends, puts-long p, q .ends, puts-long q)
 
 pub put-line-spec : {M : Type 1} → statement M

@@ -1,6 +1,5 @@
 -- `gdb_listing::put_lines` meets its contract. The loop's invariant: to write the lines of the frames that are left is all that is left to do.
 -- Assumes nothing.
-use mathlib.Core.Path.{sym, ap, _∙_}
 use Prim.Native.Nat.{ℕ, _-_}
 use mathlib.Core.List.{List, _++_}
 use Rattle.fields.specs.Lists.{flat}
@@ -8,6 +7,7 @@ use Rattle.gdb_read.specs.Steps.{headMeaning, frameMeaning}
 use Rattle.gdb_listing.specs.Text.{lineOf}
 use Rattle.gdb_listing.specs.Written.{Left, left-all, left-room, left-less}
 use Rattle.gdb_listing.specs.Rows.{rowsFrom, rows-zero, rows-none, rows-fault, rows-on, lines-end, lines-on}
+use Rattle.fields.specs.Given.{at-case}
 use borrow.Author.Needs.{needs}
 use native.Mathlib.Omega.{arith}
 use Rattle.gdb_listing.proofs.put_lines.Statement.{statement}
@@ -24,25 +24,29 @@ loop-holds : tie.Need-loop-holds Inv-loop μ-loop
 loop-holds c = let s = c .before .before in left-all (s .args .out .now) (s .args .begin) _ (s .pre)
 
 same-length : tie.Need-same-length Inv-loop μ-loop
-same-length c = c .before .before .before .before .loop .inv .long
+same-length c = let at-loop : tie.At-loop Inv-loop μ-loop = search in at-loop .loop .inv .long
 
 returns : tie.Need-returns Inv-loop μ-loop
 returns c =
-    let a = c .before .before .before .before .before .before .before .args in
-    let l = c .before .before .before .before .loop in
+    let at-loop : tie.At-loop Inv-loop μ-loop = search in
+    let start′ : tie.Start Inv-loop μ-loop = search in
+    let a = start′ .args in
+    let l = at-loop .loop in
     lines-end (rowsFrom (a .format) (a .file .now) (l .left) (l .at)) (l .inv)
-    (rows-none (a .format) (a .file .now) (l .at) (l .left) (ap frameMeaning (sym (c .enum-told .given .1)) ∙ c .before .before .head-at .ensures))
+    (rows-none (a .format) (a .file .now) (l .at) (l .left) (at-case frameMeaning (c .enum-told .given .1) (search)))
 
 same-length-2 : tie.Need-same-length-2 Inv-loop μ-loop
-same-length-2 c = c .before .before .before .before .loop .inv .long
+same-length-2 c = let at-loop : tie.At-loop Inv-loop μ-loop = search in at-loop .loop .inv .long
 
 returns-2 : tie.Need-returns-2 Inv-loop μ-loop
 returns-2 c =
-    let a = c .before .before .before .before .before .before .before .args in
-    let l = c .before .before .before .before .loop in
+    let at-loop : tie.At-loop Inv-loop μ-loop = search in
+    let start′ : tie.Start Inv-loop μ-loop = search in
+    let a = start′ .args in
+    let l = at-loop .loop in
     let g = c .enum-told2 .given in
     lines-end (rowsFrom (a .format) (a .file .now) (l .left) (l .at)) (l .inv)
-    (rows-fault (a .format) (a .file .now) (l .at) (l .left) (g .0 .0) (ap frameMeaning (sym (g .1)) ∙ c .before .before .head-at .ensures))
+    (rows-fault (a .format) (a .file .now) (l .at) (l .left) (g .0 .0) (at-case frameMeaning (g .1) (search)))
 
 -- the line of the frame that was met, and those after it, are left
 abbrev line : tie.After-head Inv-loop μ-loop → List ℕ
@@ -55,28 +59,32 @@ met : (c : tie.After-head Inv-loop μ-loop)
     → Left (c .before .before .before .before .before .before .before .args .out .now) (c .before .before .before .before .before .before .before .args .begin) (let a = c .before .before .before .before .before .before .before .args in flat lineOf (rowsFrom (a .format) (a .file .now) (a .frames) (a .start)))
     (c .before .before .before .before .loop .out) (c .before .before .before .before .loop .len) (line c ++ more c)
 met c =
-    let a = c .before .before .before .before .before .before .before .args in
-    let l = c .before .before .before .before .loop in
+    let at-loop : tie.At-loop Inv-loop μ-loop = search in
+    let start′ : tie.Start Inv-loop μ-loop = search in
+    let a = start′ .args in
+    let l = at-loop .loop in
     let g = c .head .given in
     lines-on (rowsFrom (a .format) (a .file .now) (l .left) (l .at)) (l .inv) (headMeaning (g .0 .0)) (rowsFrom (a .format) (a .file .now) (l .left - 1) (g .0 .1 .0))
-    (rows-on (a .format) (a .file .now) (l .at) (l .left) (omega arith) (headMeaning (g .0 .0)) (g .0 .1 .0) (ap frameMeaning (sym (g .1)) ∙ c .before .before .head-at .ensures))
+    (rows-on (a .format) (a .file .now) (l .at) (l .left) (omega arith) (headMeaning (g .0 .0)) (g .0 .1 .0) (at-case frameMeaning (g .1) (search)))
 
 put-line-requires : tie.Need-put-line-requires Inv-loop μ-loop
 put-line-requires c κs = let h = c .before .before in left-room (line h) (more h) (met h)
 
 loop-again : tie.Need-loop-again Inv-loop μ-loop
-loop-again c = left-less (met (c .before .before .before .before .before)) (c .before .before .put-line .ensures)
+loop-again c = left-less (met (search)) (c .before .before .put-line .ensures)
 
 same-length-3 : tie.Need-same-length-3 Inv-loop μ-loop
 same-length-3 c = c .before .loop .inv .long
 
 returns-3 : tie.Need-returns-3 Inv-loop μ-loop
 returns-3 c =
-    let a = c .before .before .before .before .args in
+    let start′ : tie.Start Inv-loop μ-loop = search in
+    let a = start′ .args in
     let l = c .before .loop in
     lines-end (rowsFrom (a .format) (a .file .now) (l .left) (l .at)) (l .inv) (rows-zero (a .format) (a .file .now) (l .at) (l .left) (omega arith))
 
 pub put-lines-spec : {M : Type 1} → statement M
 put-lines-spec =
     tie.close
-    (tie.spec Inv-loop μ-loop loop-holds (λ c κs. search needs) (λ c. search needs) same-length returns (λ c. search needs) same-length-2 returns-2 (λ c. search needs) put-line-requires (λ c. search needs) (λ c. search needs) loop-again same-length-3 returns-3)
+    (tie.spec Inv-loop μ-loop loop-holds (λ c κs. search needs) (λ c. search needs) same-length returns (λ c. search needs) same-length-2 returns-2
+    (λ c. search needs) put-line-requires (λ c. search needs) (λ c. search needs) loop-again same-length-3 returns-3)

@@ -52,9 +52,10 @@ put-ended-requires c κs =
 
 put-lines-requires : tie.Need-put-lines-requires
 put-lines-requires c κs =
+    let at-put-ended : tie.After-put-ended = search in
     let k : tie.After-copy = search in
     let p = word k in
-    let q = c .before .before .before .put-ended .ensures in
+    let q = at-put-ended .put-ended .ensures in
     omega (arith, p .ends, puts-long p, q .ends, puts-long q, ended-length (start k .args .frames) 10)
 
 pub put-table-spec : {M : Type 1} → statement M
