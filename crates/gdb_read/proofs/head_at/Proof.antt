@@ -16,19 +16,22 @@ returns c =
 
 returns-2 : tie.Need-returns-2
 returns-2 c =
-    let a = c .before .before .before .args in
+    let start : tie.Start = search in
+    let a = start .args in
     head-none (a .format) (a .s .now) (a .at) (omega arith) (omega arith)
 
 returns-3 : tie.Need-returns-3
 returns-3 c =
-    let a = c .before .before .before .before .before .before .args in
+    let start : tie.Start = search in
+    let a = start .args in
     let n = c .before .before .u16-at in
     let k = c .before .u32-at in
     head-over (a .format) (a .s .now) (a .at) (omega arith) (omega arith) (n .result) (k .result) (n .ensures) (k .ensures) (omega arith)
 
 returns-4 : tie.Need-returns-4
 returns-4 c =
-    let a = c .before .before .before .before .before .before .args in
+    let start : tie.Start = search in
+    let a = start .args in
     let n = c .before .before .u16-at in
     let k = c .before .u32-at in
     head-whole (a .format) (a .s .now) (a .at) (omega arith) (omega arith) (n .result) (k .result) (n .ensures) (k .ensures) (omega arith)
@@ -36,4 +39,5 @@ returns-4 c =
 pub head-at-spec : {M : Type 1} → statement M
 head-at-spec =
     tie.close
-    (tie.spec returns (λ c. search needs) returns-2 (λ c κs. search needs) (λ c. search needs) (λ c κs. search needs) (λ c. search needs) (λ c. search needs) (λ c. search needs) returns-3 (λ c. search needs) returns-4)
+    (tie.spec returns (λ c. search needs) returns-2 (λ c κs. search needs) (λ c. search needs) (λ c κs. search needs) (λ c. search needs)
+    (λ c. search needs) (λ c. search needs) returns-3 (λ c. search needs) returns-4)
