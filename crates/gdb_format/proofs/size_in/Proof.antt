@@ -27,26 +27,32 @@ loop-holds c = (omega arith, omega arith, refl, omega arith)
 
 returns-3 : tie.Need-returns-3 Inv-loop μ-loop
 returns-3 c =
-    let a = c .before .before .before .before .before .before .args in
-    let l = c .before .before .before .loop in
+    let at-loop : tie.At-loop Inv-loop μ-loop = search in
+    let start : tie.Start Inv-loop μ-loop = search in
+    let a = start .args in
+    let l = at-loop .loop in
     size-none (a .format) (a .l .now) (omega arith) (omega arith) (sym (l .inv .2) ∙ digit-low (a .l .now) (l .k) (l .v) (omega arith) (c .if3 .taken))
 
 returns-4 : tie.Need-returns-4 Inv-loop μ-loop
 returns-4 c =
-    let a = c .before .before .before .before .before .before .before .args in
-    let l = c .before .before .before .before .loop in
+    let at-loop : tie.At-loop Inv-loop μ-loop = search in
+    let start : tie.Start Inv-loop μ-loop = search in
+    let a = start .args in
+    let l = at-loop .loop in
     size-none (a .format) (a .l .now) (omega arith) (omega arith) (sym (l .inv .2) ∙ digit-high (a .l .now) (l .k) (l .v) (omega arith) (c .if4 .taken))
 
 mul-v : tie.Need-mul-v Inv-loop μ-loop
-mul-v c = omega (arith, ten-small (c .before .before .before .before .loop .k - 2) (omega arith))
+mul-v c = let at-loop : tie.At-loop Inv-loop μ-loop = search in omega (arith, ten-small (at-loop .loop .k - 2) (omega arith))
 
 add-v : tie.Need-add-v Inv-loop μ-loop
-add-v c = omega (arith, ten-small (c .before .before .before .before .loop .k - 2) (omega arith))
+add-v c = let at-loop : tie.At-loop Inv-loop μ-loop = search in omega (arith, ten-small (at-loop .loop .k - 2) (omega arith))
 
 loop-again : tie.Need-loop-again Inv-loop μ-loop
 loop-again c =
-    let a = c .before .before .before .before .before .before .before .args in
-    let l = c .before .before .before .before .loop in
+    let at-loop : tie.At-loop Inv-loop μ-loop = search in
+    let start : tie.Start Inv-loop μ-loop = search in
+    let a = start .args in
+    let l = at-loop .loop in
     let e : l .k + 1 - 2 ≡ l .k - 2 + 1 = omega arith in (
       omega arith,
       omega arith,
@@ -56,17 +62,20 @@ loop-again c =
 
 returns-5 : tie.Need-returns-5 Inv-loop μ-loop
 returns-5 c =
-    let a = c .before .before .before .before .before .args in
+    let start : tie.Start Inv-loop μ-loop = search in
+    let a = start .args in
     let l = c .before .before .loop in
     size-some (a .format) (a .l .now) (omega arith) (omega arith) (l .v) (sym (l .inv .2) ∙ digits-end (a .l .now) (l .k) (l .v) (omega arith)) (omega arith)
 
 returns-6 : tie.Need-returns-6 Inv-loop μ-loop
 returns-6 c =
-    let a = c .before .before .before .before .before .args in
+    let start : tie.Start Inv-loop μ-loop = search in
+    let a = start .args in
     let l = c .before .before .loop in
     size-over (a .format) (a .l .now) (omega arith) (omega arith) (l .v) (sym (l .inv .2) ∙ digits-end (a .l .now) (l .k) (l .v) (omega arith)) (omega arith)
 
 pub size-in-spec : {M : Type 1} → statement M
 size-in-spec =
     tie.close
-    (tie.spec Inv-loop μ-loop returns returns-2 loop-holds (λ c. search needs) returns-3 returns-4 mul-v (λ c. search needs) add-v (λ c. search needs) (λ c. search needs) loop-again returns-5 returns-6)
+    (tie.spec Inv-loop μ-loop returns returns-2 loop-holds (λ c. search needs) returns-3 returns-4 mul-v (λ c. search needs) add-v (λ c. search needs)
+    (λ c. search needs) loop-again returns-5 returns-6)
