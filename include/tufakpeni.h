@@ -35,7 +35,7 @@ enum {
     TFK_BAD_ARGUMENT = 2,        /* byte order not 0 or 1; a range with low above high; more than 8 ranges */
     TFK_BAD_HEAD = 3,            /* the head differs or is cut short */
     TFK_NO_EMPTY_LINE = 4,       /* the description has no empty line */
-    TFK_BAD_LINE = 5,            /* an `R ` line breaks its form, or a second `R ` or `status ` line */
+    TFK_BAD_LINE = 5,            /* an ended `R ` line breaks its form, or a second `R ` or `status ` line */
     TFK_SHORT_HEAD = 6,          /* 1 to 5 bytes remain where a frame head should start */
     TFK_DATA_PAST_FILE = 7,      /* a frame's data runs past the file */
     TFK_BAD_LETTER = 8,          /* a block letter other than R, M, V */

@@ -6,15 +6,19 @@ use lib.ListN.{length}
 use lib.Dec.{ltb}
 use Rattle.refusals.specs.Refusal.{noRoom}
 use Rattle.fields.specs.Output.{answer}
-use Rattle.fields.specs.Refuses.{Refuses, OneOf, refuses-never, refuses-with, refuses-cond, refuses-answer}
-use Rattle.gdb_format.specs.Numbers.{fileNumbers}
-use Rattle.gdb_frames.specs.Numbers.{asked-numbers}
-use Rattle.gdb_listing.specs.Text.{listingLimit, little, listed, listingOf}
+use Rattle.fields.specs.Refuses.{Refuses, OneOf, refuses-never, refuses-with, refuses-cond, refuses-next, refuses-answer}
+use Rattle.fields.specs.declared.Order.the-variants.{Little}
+use Rattle.gdb_format.specs.Settings.{formatIn}
+use Rattle.gdb_format.specs.Decode.{read}
+use Rattle.gdb_format.specs.Numbers.{decodeNumbers, decode-numbers}
+use Rattle.gdb_listing.specs.Text.{listingLimit, listed, listingOf}
 
--- 1 to 10 are shown
-pub listed-numbers : (b : List ℕ) → Refuses (OneOf fileNumbers) (listed b)
-unfolding listed
-listed-numbers b = refuses-cond (ltb listingLimit (length b)) (refuses-with tt) (asked-numbers little b _ (λ f t. refuses-never))
+-- 1 and 3 to 10 are shown: the listing's own settings are never wrong
+pub listed-numbers : (b : List ℕ) → Refuses (OneOf decodeNumbers) (listed b)
+unfolding listed read
+listed-numbers b =
+    refuses-cond (ltb listingLimit (length b)) (refuses-with tt)
+    (refuses-next (refuses-next (decode-numbers (formatIn Little) b) (λ t. refuses-never)) (λ r. refuses-never))
 
 -- 11 alone is answered
 pub listing-numbers : (b out : List ℕ) → Refuses (OneOf (noRoom ∷ [])) (answer (listingOf b) out)

@@ -1,4 +1,4 @@
--- Document 01's cases marked (P), as one table, and the one statement about it.
+-- Document 01's cases marked (P), as one table, and the one statement about it. Bytes and refusals are the paper's own.
 -- Assumes nothing.
 use mathlib.Core.Path.{_≡_, refl}
 use mathlib.Core.Bool.{true}
@@ -6,7 +6,6 @@ use Prim.Native.Nat.{ℕ, _-_, _^_}
 use mathlib.Core.List.{List, [], _∷_, _++_}
 use lib.ListN.{take, replicate}
 use lib.IntN.{ℤ, negsuc}
-use Rattle.refusals.specs.Refusal.{badHead, noEmptyLine, shortHead, badLetter, blockPastData, noRegisterSize, notFound}
 use Rattle.fields.specs.Lists.{Each}
 use Rattle.fields.specs.Answer.{Answer, accepted, refused, next}
 use Rattle.gdb_format.specs.Trace.{opening, encode}
@@ -67,14 +66,14 @@ abbrev pub h : List ℕ
 h = 0x7F ∷ 0x54 ∷ 0x52 ∷ 0x41 ∷ 0x43 ∷ 0x45 ∷ 0x30 ∷ 0x0A ∷ []
 
 -- H 0A, and then the frames
-abbrev bare : List ℕ → List ℕ
+abbrev pub bare : List ℕ → List ℕ
 bare b = h ++ 0x0A ∷ b
 
 -- frames of size 0 with the numbers 1 and 2
-abbrev empty1 : List ℕ
+abbrev pub empty1 : List ℕ
 empty1 = 1 ∷ 0 ∷ 0 ∷ 0 ∷ 0 ∷ 0 ∷ []
 
-abbrev empty2 : List ℕ
+abbrev pub empty2 : List ℕ
 empty2 = 2 ∷ 0 ∷ 0 ∷ 0 ∷ 0 ∷ 0 ∷ []
 
 -- `R 2`
@@ -90,7 +89,7 @@ abbrev minus : List ℕ
 minus = bare (1 ∷ 0 ∷ 13 ∷ 0 ∷ 0 ∷ 0 ∷ 0x56 ∷ 1 ∷ 0 ∷ 0 ∷ 0 ∷ 0xFF ∷ 0xFF ∷ 0xFF ∷ 0xFF ∷ 0xFF ∷ 0xFF ∷ 0xFF ∷ 0xFF ∷ [])
 
 -- keep 1..1, as a caller makes it: eight ranges, of which the first is stated
-abbrev range : ℕ → ℕ → Range
+abbrev pub range : ℕ → ℕ → Range
 range a b = record { low = a; high = b }
 
 abbrev only1 : Selection
@@ -98,19 +97,19 @@ only1 = record { ranges = range 1 1 ∷ replicate 7 (range 0 0); count = 1; keep
 
 abbrev pub cases : List Case
 cases =
-    little [] frames (refused badHead)
-    ∷ little h frames (refused noEmptyLine)
+    little [] frames (refused 3)
+    ∷ little h frames (refused 4)
     ∷ little (bare []) frames (accepted (rows []))
     ∷ little (bare empty1) frames (accepted (rows (row 1 15 0 ∷ [])))
     ∷ big (bare empty1) frames (accepted (rows (row 256 15 0 ∷ [])))
-    ∷ little (bare (take 5 empty1)) frames (refused shortHead)
-    ∷ little (bare (1 ∷ 0 ∷ 1 ∷ 0 ∷ 0 ∷ 0 ∷ 0x52 ∷ [])) frames (refused noRegisterSize)
-    ∷ little (bare (1 ∷ 0 ∷ 1 ∷ 0 ∷ 0 ∷ 0 ∷ 0 ∷ [])) frames (refused badLetter)
+    ∷ little (bare (take 5 empty1)) frames (refused 6)
+    ∷ little (bare (1 ∷ 0 ∷ 1 ∷ 0 ∷ 0 ∷ 0 ∷ 0x52 ∷ [])) frames (refused 10)
+    ∷ little (bare (1 ∷ 0 ∷ 1 ∷ 0 ∷ 0 ∷ 0 ∷ 0 ∷ [])) frames (refused 8)
     ∷ little (two (1 ∷ 0 ∷ 3 ∷ 0 ∷ 0 ∷ 0 ∷ 0x52 ∷ 0xAA ∷ 0xBB ∷ [])) (registers 0) (accepted (bytes (0xAA ∷ 0xBB ∷ [])))
-    ∷ little (two (1 ∷ 0 ∷ 2 ∷ 0 ∷ 0 ∷ 0 ∷ 0x52 ∷ 0xAA ∷ [])) (registers 0) (refused blockPastData)
+    ∷ little (two (1 ∷ 0 ∷ 2 ∷ 0 ∷ 0 ∷ 0 ∷ 0x52 ∷ 0xAA ∷ [])) (registers 0) (refused 9)
     ∷ little top (memory 0 (2 ^ 64 - 1)) (accepted (bytes (0x11 ∷ 0x22 ∷ [])))
     ∷ little top (memory 0 0) (accepted (bytes (0x22 ∷ [])))
-    ∷ little top (memory 0 1) (refused notFound)
+    ∷ little top (memory 0 1) (refused 12)
     ∷ little minus (variable 0 1) (accepted (value (negsuc 0)))
     ∷ little (bare (empty1 ++ empty2 ++ empty1)) (cut only1) (accepted (bytes (bare (empty1 ++ empty1))))
     ∷ []

@@ -109,6 +109,18 @@ ranged n entries k = empty (0 ∷ 8 ∷ 0 ∷ 4 ∷ 0 ∷ 0 ∷ []) (n ∷ 0 ∷
 abbrev entry : ℕ → ℕ → ℕ → ℕ → List ℕ
 entry a b c d = a ∷ b ∷ 0 ∷ 0 ∷ 0 ∷ 0 ∷ 0 ∷ 0 ∷ c ∷ d ∷ 0 ∷ 0 ∷ 0 ∷ 0 ∷ 0 ∷ 0 ∷ []
 
+-- 911 bytes of kallsyms make a header of 1,024 bytes; pages of 1,024
+abbrev toThePage : List ℕ
+toThePage =
+    start ++ (0 ∷ 8 ∷ 0 ∷ 4 ∷ 0 ∷ 0 ∷ []) ++ pageText ++ replicate 8 0 ++ eventText ++ replicate 16 0 ++ (0x8F ∷ 3 ∷ 0 ∷ 0 ∷ []) ++ replicate 923 0
+    ++ (1 ∷ 0 ∷ 0 ∷ 0 ∷ flyrecord) ++ entry 0 4 1 0 ++ 0 ∷ []
+
+-- big order, one CPU: 5 bytes at 1,024
+abbrev bigRange : List ℕ
+bigRange =
+    empty (1 ∷ 8 ∷ 0 ∷ 0 ∷ 4 ∷ 0 ∷ [])
+    (0 ∷ 0 ∷ 0 ∷ 1 ∷ flyrecord ++ replicate 6 0 ++ (4 ∷ 0 ∷ []) ++ replicate 7 0 ++ (5 ∷ []) ++ replicate 916 0)
+
 -- data in every section
 abbrev full : List ℕ
 full =
@@ -304,7 +316,10 @@ ranges =
     no (ranged 3 (entry 0 4 0 8 ++ entry 0 4 0 0 ++ entry 0 8 1 0) 2927) 17 ∷
     -- the first two overlap and the third is misaligned: 16, and 14 where the third is not there
     no (ranged 3 (entry 0 4 1 4 ++ entry 0 8 0 4 ++ entry 1 8 1 0) 2927) 16 ∷
-    no (empty (0 ∷ 8 ∷ 0 ∷ 4 ∷ 0 ∷ 0 ∷ []) (3 ∷ 0 ∷ 0 ∷ 0 ∷ flyrecord ++ entry 0 4 1 4 ++ entry 0 8 0 4)) 14 ∷ []
+    no (empty (0 ∷ 8 ∷ 0 ∷ 4 ∷ 0 ∷ 0 ∷ []) (3 ∷ 0 ∷ 0 ∷ 0 ∷ flyrecord ++ entry 0 4 1 4 ++ entry 0 8 0 4)) 14 ∷
+    -- a header of 1,024 bytes and a range of one byte right behind it; a range in big order
+    cpu 0 toThePage (accepted (1024, 1)) ∷
+    cpu 0 bigRange (accepted (1024, 5)) ∷ []
 
 abbrev wholes : List Case
 wholes =
@@ -330,6 +345,6 @@ cases-hold =
     let of-laterStrings : Each Holds laterStrings = (refl, (refl, (refl, (refl, (refl, (refl, (refl, tt))))))) in
     let of-numbers : Each Holds numbers = (refl, (refl, (refl, (refl, (refl, (refl, (refl, (refl, (refl, (refl, (refl, tt))))))))))) in
     let of-tails : Each Holds tails = (refl, (refl, (refl, (refl, (refl, (refl, tt)))))) in
-    let of-ranges : Each Holds ranges = (refl, (refl, (refl, (refl, (refl, (refl, (refl, (refl, (refl, (refl, (refl, tt))))))))))) in
+    let of-ranges : Each Holds ranges = (refl, (refl, (refl, (refl, (refl, (refl, (refl, (refl, (refl, (refl, (refl, (refl, (refl, tt))))))))))))) in
     let of-wholes : Each Holds wholes = (refl, (refl, (refl, (refl, (refl, (refl, (refl, (refl, tt)))))))) in
     (of-papers, (of-strings, (of-laterStrings, (of-numbers, (of-tails, (of-ranges, (of-wholes, tt)))))))

@@ -1,4 +1,5 @@
 pub mod Cases
+pub mod Edges
 pub mod ListingCases
 pub mod Limit
 pub mod DatCases

@@ -1,0 +1,74 @@
+-- Further cases in bytes written out, so that a rule that is wrong in the layout, the reader and the code alike is refused here; and the table's numbers.
+-- Assumes nothing.
+use mathlib.Core.Path.{_≡_, refl}
+use mathlib.Core.Bool.{false}
+use Prim.Native.Nat.{ℕ}
+use mathlib.Core.List.{List, [], _∷_, _++_}
+use lib.ListN.{replicate}
+use lib.IntN.{pos}
+use Rattle.refusals.specs.Refusal as no
+use Rattle.fields.specs.Lists.{Each}
+use Rattle.fields.specs.Answer.{Answer, accepted, refused}
+use Rattle.gdb_format.specs.Trace.{opening, encode}
+use Rattle.gdb_format.specs.Decode.{read}
+use Rattle.gdb_cut.specs.Cut.{cutOf}
+use Rattle.gdb_cut.specs.declared.Selection.{Selection}
+use Rattle.gdb_join.specs.Join.{joinOf}
+use Rattle.paper_cases.specs.Cases.{Question, frames, memory, variable, cut, Reply, rows, bytes, value, Case, Holds, h, bare, empty1, empty2, range}
+
+-- the numbers of document 01's table, in its order
+abbrev named : List ℕ
+named =
+    no.tooLong ∷ no.badArgument ∷ no.badHead ∷ no.noEmptyLine ∷ no.badLine ∷ no.shortHead ∷ no.dataPastFile ∷ no.badLetter ∷ no.blockPastData
+    ∷ no.noRegisterSize ∷ no.noRoom ∷ no.notFound ∷ no.openingsDiffer ∷ no.fieldPastFile ∷ no.badConstant ∷ no.badRange ∷ no.rangesOverlap ∷ []
+
+pub numbers : named ≡ 1 ∷ 2 ∷ 3 ∷ 4 ∷ 5 ∷ 6 ∷ 7 ∷ 8 ∷ 9 ∷ 10 ∷ 11 ∷ 12 ∷ 13 ∷ 14 ∷ 15 ∷ 16 ∷ 17 ∷ []
+numbers = refl
+
+-- ---- rows
+
+-- in byte order o
+abbrev ordered : ℕ → List ℕ → Question → Answer Reply → Case
+ordered o b q r = record { settings = record { order = o }; file = b; question = q; reply = r }
+
+-- a description of one line, and no frames
+abbrev lined : List ℕ → List ℕ
+lined l = h ++ l ++ 0x0A ∷ 0x0A ∷ []
+
+abbrev registerLine : List ℕ → List ℕ
+registerLine d = lined (0x52 ∷ 0x20 ∷ d)
+
+-- drop 1..1
+abbrev but1 : Selection
+but1 = record { ranges = range 1 1 ∷ replicate 7 (range 0 0); count = 1; keep = false }
+
+abbrev edges : List Case
+edges =
+    -- `R8`; `R 65535` and `R 65536`; six digits, none; a second `R ` line
+    ordered 0 (lined (0x52 ∷ 0x38 ∷ [])) frames (accepted (rows []))
+    ∷ ordered 0 (registerLine (0x36 ∷ 0x35 ∷ 0x35 ∷ 0x33 ∷ 0x35 ∷ [])) frames (accepted (rows []))
+    ∷ ordered 0 (registerLine (0x36 ∷ 0x35 ∷ 0x35 ∷ 0x33 ∷ 0x36 ∷ [])) frames (refused 5)
+    ∷ ordered 0 (registerLine (replicate 6 0x30)) frames (refused 5)
+    ∷ ordered 0 (registerLine []) frames (refused 5)
+    ∷ ordered 0 (registerLine (0x31 ∷ 0x0A ∷ 0x52 ∷ 0x20 ∷ 0x31 ∷ [])) frames (refused 5)
+    -- data past the file; a byte order that is neither
+    ∷ ordered 0 (bare (1 ∷ 0 ∷ 1 ∷ 0 ∷ 0 ∷ 0 ∷ [])) frames (refused 7)
+    ∷ ordered 2 (bare []) frames (refused 2)
+    -- big order: `M` at address 5, bytes 11 22, asked at 6; `V` number 1, value 5
+    ∷ ordered 1 (bare (0 ∷ 1 ∷ 0 ∷ 0 ∷ 0 ∷ 13 ∷ 0x4D ∷ replicate 7 0 ++ 5 ∷ 0 ∷ 2 ∷ 0x11 ∷ 0x22 ∷ [])) (memory 0 6) (accepted (bytes (0x22 ∷ [])))
+    ∷ ordered 1 (bare (0 ∷ 1 ∷ 0 ∷ 0 ∷ 0 ∷ 13 ∷ 0x56 ∷ 0 ∷ 0 ∷ 0 ∷ 1 ∷ replicate 7 0 ++ 5 ∷ [])) (variable 0 1) (accepted (value (pos 5)))
+    -- frames 1, 2, 1 cut by drop 1..1
+    ∷ ordered 0 (bare (empty1 ++ empty2 ++ empty1)) (cut but1) (accepted (bytes (bare empty2)))
+    ∷ []
+
+pub edges-hold : Each Holds edges
+unfolding read opening encode cutOf
+edges-hold = (refl, (refl, (refl, (refl, (refl, (refl, (refl, (refl, (refl, (refl, (refl, tt)))))))))))
+
+-- a join has the first trace's frames first; 13 where the openings differ
+abbrev little : List ℕ → List ℕ → Answer (List ℕ)
+little a b = joinOf (record { order = 0 }) a b
+
+pub joins-hold : (little (bare empty1) (bare empty2) ≡ accepted (bare (empty1 ++ empty2))) × (little (bare empty1) (lined (0x78 ∷ [])) ≡ refused 13)
+unfolding read opening encode joinOf
+joins-hold = (refl, refl)
