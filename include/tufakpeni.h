@@ -106,7 +106,8 @@ typedef struct {
 /* The number of frames. */
 tfk_count tfk_frame_count(tfk_settings settings, const uint8_t *file, size_t file_length);
 
-/* The frame table: one record per frame; the answer is the number of frames. Records beyond the last frame stay unchanged; 11 where there are more frames than records. */
+/* The frame table: one record per frame; the answer is the number of frames. Records beyond the last frame stay unchanged; 11 where there are more frames than records.
+ * The records may not overlap the file. */
 tfk_count tfk_frame_table(tfk_settings settings, const uint8_t *file, size_t file_length, tfk_frame *out, size_t out_length);
 
 /* Line j of the description; the closing empty line is not counted. */
