@@ -13,15 +13,10 @@ use Rattle.fields.specs.Number.{wordAt, word-in}
 use Rattle.fields.specs.Answer.{Answer, accepted, refused}
 use Rattle.fields.specs.At.{num-short, num-at}
 use Rattle.fields.specs.declared.Order.{Order}
+use Rattle.fields.specs.Element.{nth}
 use Rattle.dat_format.specs.Pieces.{times}
 use Rattle.dat_format.specs.Header.{Range}
 use Rattle.dat_format.specs.Decode.{range}
-
--- element n, or 12
-abbrev pub nth : {A : Type 0} → List A → ℕ → Answer A
-nth [] n = refused notFound
-nth (x ∷ xs) zero = accepted x
-nth (x ∷ xs) (suc n) = nth xs n
 
 module _ (o : Order) (s : List ℕ) where
   abbrev pub entryAt : ℕ → Range

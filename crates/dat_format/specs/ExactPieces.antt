@@ -9,7 +9,7 @@ use lib.ListN.{length}
 use lib.Dec.{eqb}
 use borrow.Author.Tests.{eqb-true, eqb-false, ne-eqb}
 use Rattle.refusals.specs.Refusal.{fieldPastFile}
-use Rattle.fields.specs.Lists.{flat, Each, clash}
+use Rattle.fields.specs.Lists.{concatMap, Each, clash}
 use Rattle.fields.specs.Number.{Bytes, bytes-back}
 use Rattle.fields.specs.Word.{starts, starts-same, starts-self}
 use Rattle.fields.specs.Answer.{Answer, accepted, refused, never, accepted-inj, next, next-inv}
@@ -41,21 +41,21 @@ exact-after w ep =
 -- ---- n elements
 
 module _ {A : Type 0} {p : Reader A} {F : A → Type 0} {put : A → List ℕ} (ep : Exact p F put) where
-  times-back : (n : ℕ) (l : List A) (rest : List ℕ) → (length l ≡ n) × Each F l → times n p (flat put l ++ rest) ≡ accepted (l, rest)
+  times-back : (n : ℕ) (l : List A) (rest : List ℕ) → (length l ≡ n) × Each F l → times n p (concatMap put l ++ rest) ≡ accepted (l, rest)
   times-back zero [] rest f = refl
   times-back zero (a ∷ l) rest f = absurd (omega arith)
   times-back (suc n) [] rest f = absurd (omega arith)
   times-back (suc n) (a ∷ l) rest f =
-      rw (append-assoc (put a) (flat put l) rest, ep .back a (flat put l ++ rest) (f .1 .0), times-back n l rest (omega arith, f .1 .1))
+      rw (append-assoc (put a) (concatMap put l) rest, ep .back a (concatMap put l ++ rest) (f .1 .0), times-back n l rest (omega arith, f .1 .1))
 
   -- one more element, read before the others
-  cons-forth : (n : ℕ) (b mid end rest : List ℕ) (a : A) (m l : List A) → F a × (put a ++ mid ≡ b) → ((length m ≡ n) × Each F m) × (flat put m ++ end ≡ mid)
-      → _≡_ {A = Answer (List A × List ℕ)} (accepted (a ∷ m, end)) (accepted (l, rest)) → ((length l ≡ suc n) × Each F l) × (flat put l ++ rest ≡ b)
+  cons-forth : (n : ℕ) (b mid end rest : List ℕ) (a : A) (m l : List A) → F a × (put a ++ mid ≡ b) → ((length m ≡ n) × Each F m) × (concatMap put m ++ end ≡ mid)
+      → _≡_ {A = Answer (List A × List ℕ)} (accepted (a ∷ m, end)) (accepted (l, rest)) → ((length l ≡ suc n) × Each F l) × (concatMap put l ++ rest ≡ b)
   cons-forth n b mid end rest a m l fa fl e =
       let q = accepted-inj e in
-      rw (← q .0, ← q .1) ((ap suc (fl .0 .0), (fa .0, fl .0 .1)), append-assoc (put a) (flat put m) end ∙ ap (λ t. put a ++ t) (fl .1) ∙ fa .1)
+      rw (← q .0, ← q .1) ((ap suc (fl .0 .0), (fa .0, fl .0 .1)), append-assoc (put a) (concatMap put m) end ∙ ap (λ t. put a ++ t) (fl .1) ∙ fa .1)
 
-  times-forth : (n : ℕ) (b : List ℕ) (l : List A) (rest : List ℕ) → Bytes b → times n p b ≡ accepted (l, rest) → ((length l ≡ n) × Each F l) × (flat put l ++ rest ≡ b)
+  times-forth : (n : ℕ) (b : List ℕ) (l : List A) (rest : List ℕ) → Bytes b → times n p b ≡ accepted (l, rest) → ((length l ≡ n) × Each F l) × (concatMap put l ++ rest ≡ b)
   times-forth zero b l rest h e = let q = accepted-inj e in rw (← q .0, ← q .1) ((refl, tt), refl)
   times-forth (suc n) b l rest h e =
       let s = next-inv (p b) (λ r. next (times n p (r .1)) (λ m. accepted (r .0 ∷ m .0, m .1))) e in
@@ -64,7 +64,7 @@ module _ {A : Type 0} {p : Reader A} {F : A → Type 0} {put : A → List ℕ} (
       cons-forth n b (s .0 .1) (u .0 .1) rest (s .0 .0) (u .0 .0) l fa
       (times-forth n (s .0 .1) (u .0 .0) (u .0 .1) (bytes-back (put (s .0 .0)) (s .0 .1) (rw (fa .1) h)) (u .1)) (u .2)
 
-  pub exact-times : (n : ℕ) → Exact (times n p) (λ l. (length l ≡ n) × Each F l) (flat put)
+  pub exact-times : (n : ℕ) → Exact (times n p) (λ l. (length l ≡ n) × Each F l) (concatMap put)
   exact-times n = record { back = times-back n; forth = times-forth n }
 
   pub exact-counted : (o : Order) → Exact (counted o p) (CountFits F) (putCounted o put)

@@ -10,7 +10,7 @@ use lib.ListN.{length, length-append}
 use lib.Dec.{eqb}
 use borrow.Author.Tests.{eqb-true, eqb-false}
 use Rattle.refusals.specs.Refusal.{fieldPastFile, badConstant}
-use Rattle.fields.specs.Lists.{flat, Each, clash}
+use Rattle.fields.specs.Lists.{concatMap, Each, clash}
 use Rattle.fields.specs.Number.{field, length-field}
 use Rattle.fields.specs.Word.{starts, starts-same}
 use Rattle.fields.specs.Reader.{_>>=_, give}
@@ -123,12 +123,12 @@ exact-optionsF (suc f) o =
 option-length : (o : Order) (x : Opt) → 0 < length (putOpt o x)
 option-length o x = omega (arith, length-append (field o 2 (x .type)) (putSized o 4 (x .body)), length-field o 2 (x .type))
 
-list-length : (o : Order) (l : List Opt) → length l ≤ length (flat (putOpt o) l)
+list-length : (o : Order) (l : List Opt) → length l ≤ length (concatMap (putOpt o) l)
 list-length o [] = omega arith
-list-length o (x ∷ l) = omega (arith, list-length o l, option-length o x, length-append (putOpt o x) (flat (putOpt o) l))
+list-length o (x ∷ l) = omega (arith, list-length o l, option-length o x, length-append (putOpt o x) (concatMap (putOpt o) l))
 
 enough : (o : Order) (l : List Opt) (rest : List ℕ) → length l < length (putList o l ++ rest)
-enough o l rest = omega (arith, list-length o l, length-append (putList o l) rest, length-append (flat (putOpt o) l) (field o 2 0), length-field o 2 0)
+enough o l rest = omega (arith, list-length o l, length-append (putList o l) rest, length-append (concatMap (putOpt o) l) (field o 2 0), length-field o 2 0)
 
 pub exact-options : (o : Order) → Exact (options o) (Each OptFits) (putList o)
 unfolding options
@@ -156,7 +156,7 @@ wordOf (flyrecord rs) = flyWord
 
 restOf : Order → Ending → List ℕ
 restOf o latency = []
-restOf o (flyrecord rs) = flat (putRange o) rs
+restOf o (flyrecord rs) = concatMap (putRange o) rs
 
 word-rest : (o : Order) (e : Ending) → putWord (wordOf e) ++ restOf o e ≡ putEnding o e
 unfolding wordOf restOf

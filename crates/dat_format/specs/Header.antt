@@ -3,7 +3,7 @@
 use mathlib.Core.Option.{Option, none, some}
 use Prim.Native.Nat.{ℕ}
 use mathlib.Core.List.{List, [], _∷_, _++_}
-use Rattle.fields.specs.Lists.{flat}
+use Rattle.fields.specs.Lists.{concatMap}
 use Rattle.fields.specs.Number.{field}
 use Rattle.fields.specs.declared.Order.{Order}
 use Rattle.fields.specs.declared.Order.the-variants.{Little, Big}
@@ -116,7 +116,7 @@ putOpt o x = field o 2 (x .type) ++ putSized o 4 (x .body)
 
 -- from the first type through the closing 0
 abbrev pub putList : Order → List Opt → List ℕ
-putList o l = flat (putOpt o) l ++ field o 2 0
+putList o l = concatMap (putOpt o) l ++ field o 2 0
 
 abbrev pub putOptions : Order → Option (List Opt) → List ℕ
 putOptions o none = []
@@ -127,7 +127,7 @@ putRange o r = field o 8 (r .offset) ++ field o 8 (r .size)
 
 abbrev pub putEnding : Order → Ending → List ℕ
 putEnding o latency = putWord latencyWord
-putEnding o (flyrecord rs) = putWord flyWord ++ flat (putRange o) rs
+putEnding o (flyrecord rs) = putWord flyWord ++ concatMap (putRange o) rs
 
 unfoldable pub putTail : Order → Tail → List ℕ
 putTail o t = putOptions o (t .options) ++ putEnding o (t .ending)

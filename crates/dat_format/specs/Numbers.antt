@@ -21,7 +21,6 @@ use Rattle.dat_format.specs.Layout.{mostCpus, ranges}
 use Rattle.dat_format.specs.Tests.{isLong, isPage, inFile, all, allApart}
 use Rattle.dat_format.specs.Decode.{orderIn, sizes, flags, opening, system, sections, texts, isWord, word, optionsF, options}
 use Rattle.dat_format.specs.Decode.{range, ending, tailAfter, tail, header, checked, decode}
-use Rattle.dat_format.specs.Entries.{nth}
 
 -- ---- a header's pieces
 
@@ -171,10 +170,3 @@ module _ (b : List ℕ) where
   pub dat-too-long : (decode b ≡ refused tooLong) ↔ (limit < length b)
   unfolding decode
   dat-too-long = refuses-too-long (length b) laid-numbers (λ e. e)
-
--- ---- element n, or 12
-
-pub nth-numbers : {P : ℕ → Type 0} {A : Type 0} (xs : List A) (n : ℕ) → P notFound → Refuses P (nth xs n)
-nth-numbers [] n h = refuses-with h
-nth-numbers (x ∷ xs) zero h = refuses-never
-nth-numbers (x ∷ xs) (suc n) h = nth-numbers xs n h

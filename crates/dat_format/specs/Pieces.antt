@@ -6,7 +6,7 @@ use mathlib.Core.List.{List, [], _∷_, _++_}
 use lib.ListN.{length}
 use lib.Dec.{eqb}
 use Rattle.refusals.specs.Refusal.{fieldPastFile, badConstant}
-use Rattle.fields.specs.Lists.{flat}
+use Rattle.fields.specs.Lists.{concatMap}
 use Rattle.fields.specs.Number.{field}
 use Rattle.fields.specs.Word.{starts}
 use Rattle.fields.specs.Answer.{Answer, accepted, refused, next}
@@ -53,7 +53,7 @@ counted o p = do
   times n p
 
 abbrev pub putCounted : {A : Type 0} → Order → (A → List ℕ) → List A → List ℕ
-putCounted o put l = field o 4 (length l) ++ flat put l
+putCounted o put l = field o 4 (length l) ++ concatMap put l
 
 -- the bytes up to a NUL, which ends the name
 abbrev pub name : Reader (List ℕ)

@@ -8,7 +8,7 @@ use lib.ListN.{length, take, drop, length-append}
 use lib.Seq.{take-at}
 use borrow.Author.Tests.{le-leb, lt-leb}
 use Rattle.refusals.specs.Refusal.{fieldPastFile, badRange}
-use Rattle.fields.specs.Lists.{flat}
+use Rattle.fields.specs.Lists.{concatMap}
 use Rattle.fields.specs.Number.{Bytes, number, field, length-field, number-field, wordAt, word-in}
 use Rattle.fields.specs.Answer.{Answer, accepted, refused}
 use Rattle.fields.specs.Reader.{Reader, seenAt, passAt}
@@ -55,16 +55,16 @@ pub piece-end : (o : Order) (w s : List ℕ) (at m : ℕ) (g : Piece o w s at m)
 piece-end o w s at m g = omega (arith, g .place, length-append w (putSized o 8 (g .value)), length-sized o 8 (g .value))
 
 module _ {A : Type 0} (o : Order) (p : Reader A) (F : A → Type 0) (put : A → List ℕ) (s : List ℕ) (at m : ℕ) (g : Counted o p F put s at m) where
-  pub counted-end : m ≡ at + 4 + length (flat put (g .value))
-  counted-end = omega (arith, g .place, length-append (field o 4 (length (g .value))) (flat put (g .value)), length-field o 4 (length (g .value)))
+  pub counted-end : m ≡ at + 4 + length (concatMap put (g .value))
+  counted-end = omega (arith, g .place, length-append (field o 4 (length (g .value))) (concatMap put (g .value)), length-field o 4 (length (g .value)))
 
   -- the count that stands there
   count-is : (n : ℕ) → n ≡ wordAt o 4 s at → n ≡ length (g .value)
   count-is n e =
       let f : List ℕ = field o 4 (length (g .value)) in
-      let q : f ++ (flat put (g .value) ++ drop m s) ≡ drop at s = sym (append-assoc f (flat put (g .value)) (drop m s)) ∙ g .laid in
+      let q : f ++ (concatMap put (g .value) ++ drop m s) ≡ drop at s = sym (append-assoc f (concatMap put (g .value)) (drop m s)) ∙ g .laid in
       e ∙ word-in o 4 s at (omega (arith, counted-end, g .inside)) ∙ ap (λ l. number o (take 4 l)) (sym q)
-      ∙ ap (number o) (take-at f (flat put (g .value) ++ drop m s) 4 (length-field o 4 (length (g .value)))) ∙ number-field o 4 (length (g .value)) (g .fits .0)
+      ∙ ap (number o) (take-at f (concatMap put (g .value) ++ drop m s) 4 (length-field o 4 (length (g .value)))) ∙ number-field o 4 (length (g .value)) (g .fits .0)
 
 -- ---- a system
 
@@ -165,7 +165,7 @@ module _ {o : Order} {s : List ℕ} {at a b c d : ℕ} (w : Sectioned o s at a b
       let ed = counted-end o (system o) SystemFits (putSystem o) s c d gd in
       let fa : a + 21 ≡ at + 20 + length (ga .value) + 21 = omega arith in
       let fb : b + 4 ≡ at + 20 + length (ga .value) + 21 + length (gb .value) + 4 = omega arith in
-      let fc : c + 4 ≡ at + 20 + length (ga .value) + 21 + length (gb .value) + 4 + length (flat (putSized o 8) (gc .value)) + 4 = omega arith in
+      let fc : c + 4 ≡ at + 20 + length (ga .value) + 21 + length (gb .value) + 4 + length (concatMap (putSized o 8) (gc .value)) + 4 = omega arith in
       rw (
         ga .reads,
         gb .reads,
@@ -174,8 +174,8 @@ module _ {o : Order} {s : List ℕ} {at a b c d : ℕ} (w : Sectioned o s at a b
         place-of s d (gd .inside),
         part-is (at + 20) a (length (ga .value)) p ep ea,
         part-is (a + 21) b (length (gb .value)) q eq eb,
-        part-is (b + 4) c (length (flat (putSized o 8) (gc .value))) r er ec,
-        part-is (c + 4) d (length (flat (putSystem o) (gd .value))) t et ed,
+        part-is (b + 4) c (length (concatMap (putSized o 8) (gc .value))) r er ec,
+        part-is (c + 4) d (length (concatMap (putSystem o) (gd .value))) t et ed,
         count-is o (sized o 8) (DataFits 8) (putSized o 8) s b c gc m em,
         count-is o (system o) SystemFits (putSystem o) s c d gd n en,
         fa,

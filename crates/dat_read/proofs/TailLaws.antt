@@ -145,22 +145,22 @@ module _ (o : Order) (s : List ℕ) (n at : ℕ) (h : at ≤ length s) where
 -- ---- the ending
 
 module _ (o : Order) (n : ℕ) (p : Part) (s : List ℕ) (at : ℕ) (h : at ≤ length s) where
-  abbrev Ends : Word → Answer (TailParts × ℕ) → Type 0
-  Ends w x = x ≡ seenAt (endingParts p) (ending o n w) s at
+  abbrev TailEnds : Word → Answer (TailParts × ℕ) → Type 0
+  TailEnds w x = x ≡ seenAt (endingParts p) (ending o n w) s at
 
-  pub again : (w : Word) → w ≡ optionsWord → Ends w (refused badConstant)
+  pub again : (w : Word) → w ≡ optionsWord → TailEnds w (refused badConstant)
   unfolding ending
   again w e = rw e
 
-  pub text : (w : Word) → w ≡ latencyWord → Ends w (accepted (endingParts p at latency, at))
+  pub text : (w : Word) → w ≡ latencyWord → TailEnds w (accepted (endingParts p at latency, at))
   unfolding ending
   text w e = rw (e, place-of s at h)
 
-  pub bad-entries : (w : Word) → w ≡ flyWord → (k : ℕ) → refused k ≡ passAt (times n (range o)) s at → Ends w (refused k)
+  pub bad-entries : (w : Word) → w ≡ flyWord → (k : ℕ) → refused k ≡ passAt (times n (range o)) s at → TailEnds w (refused k)
   unfolding ending
   bad-entries w e k f = rw (e, not-read (λ i a. tt) (times n (range o)) s at k f)
 
-  pub with-entries : (w : Word) → w ≡ flyWord → (m : ℕ) → accepted (tt, m) ≡ passAt (times n (range o)) s at → Ends w (accepted (endingParts p at (flyrecord []), m))
+  pub with-entries : (w : Word) → w ≡ flyWord → (m : ℕ) → accepted (tt, m) ≡ passAt (times n (range o)) s at → TailEnds w (accepted (endingParts p at (flyrecord []), m))
   unfolding ending
   with-entries w e m f = rw e (by (times n (range o) (drop at s)) f)
     where

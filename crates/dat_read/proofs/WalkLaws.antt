@@ -6,7 +6,7 @@ use Prim.Native.Nat.{ℕ, _+_, _≤_}
 use native.Mathlib.Omega.{arith}
 use mathlib.Core.List.{List, [], _++_}
 use lib.ListN.{length, drop, length-append, length-drop}
-use Rattle.fields.specs.Lists.{flat}
+use Rattle.fields.specs.Lists.{concatMap}
 use Rattle.fields.specs.Number.{Bytes}
 use Rattle.fields.specs.Answer.{Answer, accepted, refused}
 use Rattle.fields.specs.Reader.{seenAt}
@@ -40,11 +40,11 @@ use Rattle.dat_read.specs.declared.tail.TailParts.{TailParts}
 
 abbrev entriesOf : Order → Ending → List ℕ
 entriesOf o latency = []
-entriesOf o (flyrecord rs) = flat (putRange o) rs
+entriesOf o (flyrecord rs) = concatMap (putRange o) rs
 
 ending-length : (o : Order) (e : Ending) → length (putEnding o e) ≡ 10 + length (entriesOf o e)
 ending-length o latency = refl
-ending-length o (flyrecord rs) = omega (arith, length-append (putWord flyWord) (flat (putRange o) rs))
+ending-length o (flyrecord rs) = omega (arith, length-append (putWord flyWord) (concatMap (putRange o) rs))
 
 tail-length : (o : Order) (at : ℕ) (x : Option (List Opt)) (e : Ending) → at + length (putOptions o x ++ putEnding o e) ≡ bodyAt o (at + 10) x + length (entriesOf o e)
 tail-length o at none e = omega (arith, ending-length o e)

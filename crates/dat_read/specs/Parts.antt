@@ -7,7 +7,7 @@ use native.Mathlib.Omega.{arith}
 use mathlib.Core.List.{List, [], _∷_, _++_, append-assoc}
 use lib.ListN.{length, take, drop, length-append}
 use lib.Seq.{take-at, take-all, drop-at, drop-drop}
-use Rattle.fields.specs.Lists.{flat, Each}
+use Rattle.fields.specs.Lists.{concatMap, Each}
 use Rattle.fields.specs.Number.{Bytes, field, length-field}
 use Rattle.fields.specs.Answer.{accepted, accepted-inj}
 use Rattle.fields.specs.declared.Order.{Order}
@@ -48,16 +48,16 @@ module _ (b : List ℕ) where
   held p at x h e l = ap₂ (λ n i. take n (drop i b)) (sym l) (sym e) ∙ ap (take (length x)) (h .1) ∙ take-at x (h .0) (length x) refl
 
   -- elements behind their count
-  counted-back : {A : Type 0} (o : Order) (at : ℕ) (put : A → List ℕ) (l : List A) → Holds b at (putCounted o put l) → Holds b (at + 4) (flat put l)
+  counted-back : {A : Type 0} (o : Order) (at : ℕ) (put : A → List ℕ) (l : List A) → Holds b at (putCounted o put l) → Holds b (at + 4) (concatMap put l)
   counted-back o at put l h =
-      moved (at + length (field o 4 (length l))) (at + 4) (flat put l) (omega (arith, length-field o 4 (length l))) (back at (field o 4 (length l)) (flat put l) h)
+      moved (at + length (field o 4 (length l))) (at + 4) (concatMap put l) (omega (arith, length-field o 4 (length l))) (back at (field o 4 (length l)) (concatMap put l) h)
 
 -- the length of data with its size, and of elements with their count
 sized-length : (o : Order) (w : ℕ) (d : List ℕ) → length (putSized o w d) ≡ w + length d
 sized-length o w d = omega (arith, length-append (field o w (length d)) d, length-field o w (length d))
 
-counted-length : {A : Type 0} (o : Order) (put : A → List ℕ) (l : List A) → length (putCounted o put l) ≡ 4 + length (flat put l)
-counted-length o put l = omega (arith, length-append (field o 4 (length l)) (flat put l), length-field o 4 (length l))
+counted-length : {A : Type 0} (o : Order) (put : A → List ℕ) (l : List A) → length (putCounted o put l) ≡ 4 + length (concatMap put l)
+counted-length o put l = omega (arith, length-append (field o 4 (length l)) (concatMap put l), length-field o 4 (length l))
 
 -- ---- a header that opens b
 
@@ -128,16 +128,16 @@ module _ (b rest : List ℕ) (h : Header) (laid : encode h ++ rest ≡ b) where
   header-event-holds =
       held b (summary (length b) h .sections .«header_event») (eventAt + 8) (h .sections .headerEvent) (sized-back b o 8 eventAt (h .sections .headerEvent) (front b eventAt eventData lists from-event)) (omega (arith, page-length)) refl
 
-  formats-hold : bytesIn b (summary (length b) h .sections .formats) ≡ flat (putSized o 8) (h .sections .formats)
+  formats-hold : bytesIn b (summary (length b) h .sections .formats) ≡ concatMap (putSized o 8) (h .sections .formats)
   unfolding summary
   formats-hold =
-      held b (summary (length b) h .sections .formats) (formatsAt + 4) (flat (putSized o 8) (h .sections .formats))
+      held b (summary (length b) h .sections .formats) (formatsAt + 4) (concatMap (putSized o 8) (h .sections .formats))
       (counted-back b o formatsAt (putSized o 8) (h .sections .formats) (front b formatsAt formatList systemList from-formats)) (omega (arith, page-length, event-length)) refl
 
-  systems-hold : bytesIn b (summary (length b) h .sections .systems) ≡ flat (putSystem o) (h .sections .systems)
+  systems-hold : bytesIn b (summary (length b) h .sections .systems) ≡ concatMap (putSystem o) (h .sections .systems)
   unfolding summary
   systems-hold =
-      held b (summary (length b) h .sections .systems) (formatsAt + length formatList + 4) (flat (putSystem o) (h .sections .systems))
+      held b (summary (length b) h .sections .systems) (formatsAt + length formatList + 4) (concatMap (putSystem o) (h .sections .systems))
       (counted-back b o (formatsAt + length formatList) (putSystem o) (h .sections .systems) (back b formatsAt formatList systemList from-formats))
       (omega (arith, page-length, event-length, counted-length o (putSized o 8) (h .sections .formats))) refl
 
@@ -216,13 +216,13 @@ module _ (b rest : List ℕ) (h : Header) (laid : encode h ++ rest ≡ b) where
   from-ending = back b tail (putOptions o (h .tail .options)) (putEnding o (h .tail .ending)) from-tail
 
   module _ (rs : List Range) (e : h .tail .ending ≡ flyrecord rs) where
-    from-entries : Holds b bodyPlace (flat (putRange o) rs)
+    from-entries : Holds b bodyPlace (concatMap (putRange o) rs)
     from-entries =
-        moved b (tail + length (putOptions o (h .tail .options)) + 10) bodyPlace (flat (putRange o) rs) (body-is (h .tail .options))
-        (back b (tail + length (putOptions o (h .tail .options))) (putWord flyWord) (flat (putRange o) rs)
+        moved b (tail + length (putOptions o (h .tail .options)) + 10) bodyPlace (concatMap (putRange o) rs) (body-is (h .tail .options))
+        (back b (tail + length (putOptions o (h .tail .options))) (putWord flyWord) (concatMap (putRange o) rs)
         (subst (λ e. Holds b (tail + length (putOptions o (h .tail .options))) (putEnding o e)) e from-ending))
 
-    end-is : length (encode h) ≡ bodyPlace + length (flat (putRange o) rs)
+    end-is : length (encode h) ≡ bodyPlace + length (concatMap (putRange o) rs)
     unfolding encode putTail
     end-is =
         omega (
@@ -233,15 +233,15 @@ module _ (b rest : List ℕ) (h : Header) (laid : encode h ++ rest ≡ b) where
           length-append (putTexts o (h .texts)) (putTail o (h .tail)),
           length-append (putOptions o (h .tail .options)) (putEnding o (h .tail .ending)),
           ap (λ e. length (putEnding o e)) e,
-          length-append (putWord flyWord) (flat (putRange o) rs),
+          length-append (putWord flyWord) (concatMap (putRange o) rs),
         )
 
     body-entries : summary (length b) h .body ≡ partTo bodyPlace (length (encode h))
     unfolding summary
     body-entries = ap (λ e. bodyOf (kindOf e) bodyPlace (length (encode h)) (length b)) e
 
-    entries-hold : bytesIn b (summary (length b) h .body) ≡ flat (putRange o) rs
-    entries-hold = ap (bytesIn b) body-entries ∙ held b (partTo bodyPlace (length (encode h))) bodyPlace (flat (putRange o) rs) from-entries refl (omega (arith, end-is))
+    entries-hold : bytesIn b (summary (length b) h .body) ≡ concatMap (putRange o) rs
+    entries-hold = ap (bytesIn b) body-entries ∙ held b (partTo bodyPlace (length (encode h))) bodyPlace (concatMap (putRange o) rs) from-entries refl (omega (arith, end-is))
 
   text-holds : h .tail .ending ≡ latency → encode h ++ bytesIn b (summary (length b) h .body) ≡ b
   unfolding summary
@@ -251,13 +251,13 @@ module _ (b rest : List ℕ) (h : Header) (laid : encode h ++ rest ≡ b) where
       ap (λ e. encode h ++ bytesIn b (bodyOf (kindOf e) bodyPlace (length (encode h)) (length b))) e
       ∙ ap (λ r. encode h ++ take (length b - length (encode h)) r) d ∙ ap (λ r. encode h ++ r) (take-all (length b - length (encode h)) rest (omega arith)) ∙ laid
 
-entries-length : (o : Order) (rs : List Range) → length (flat (putRange o) rs) ≡ 16 * length rs
+entries-length : (o : Order) (rs : List Range) → length (concatMap (putRange o) rs) ≡ 16 * length rs
 entries-length o [] = refl
 entries-length o (r ∷ rs) =
     omega (
       arith,
       entries-length o rs,
-      length-append (putRange o r) (flat (putRange o) rs),
+      length-append (putRange o r) (concatMap (putRange o) rs),
       length-append (field o 8 (r .offset)) (field o 8 (r .size)),
       length-field o 8 (r .offset),
       length-field o 8 (r .size),
@@ -285,13 +285,13 @@ entries-are b rest h laid fits rs e =
 pub record SectionsHeld (b : List ℕ) (h : Header) : Type 0 where
   pub header-page : bytesIn b (summary (length b) h .sections .«header_page») ≡ h .sections .headerPage
   pub header-event : bytesIn b (summary (length b) h .sections .«header_event») ≡ h .sections .headerEvent
-  pub formats : bytesIn b (summary (length b) h .sections .formats) ≡ flat (putSized (h .opening .order) 8) (h .sections .formats)
-  pub systems : bytesIn b (summary (length b) h .sections .systems) ≡ flat (putSystem (h .opening .order)) (h .sections .systems)
+  pub formats : bytesIn b (summary (length b) h .sections .formats) ≡ concatMap (putSized (h .opening .order) 8) (h .sections .formats)
+  pub systems : bytesIn b (summary (length b) h .sections .systems) ≡ concatMap (putSystem (h .opening .order)) (h .sections .systems)
   pub kallsyms : bytesIn b (summary (length b) h .texts .kallsyms) ≡ h .texts .kallsyms
   pub printk : bytesIn b (summary (length b) h .texts .printk) ≡ h .texts .printk
   pub processes : bytesIn b (summary (length b) h .texts .processes) ≡ h .texts .processes
   pub options : (l : List Opt) → h .tail .options ≡ some l → bytesIn b (summary (length b) h .options) ≡ putList (h .opening .order) l
-  pub entries : (rs : List Range) → h .tail .ending ≡ flyrecord rs → bytesIn b (summary (length b) h .body) ≡ flat (putRange (h .opening .order)) rs
+  pub entries : (rs : List Range) → h .tail .ending ≡ flyrecord rs → bytesIn b (summary (length b) h .body) ≡ concatMap (putRange (h .opening .order)) rs
   -- the text is all that follows the header
   pub text : h .tail .ending ≡ latency → encode h ++ bytesIn b (summary (length b) h .body) ≡ b
 

@@ -33,9 +33,9 @@ stepMeaning (step.Next m) = accepted (tt, m)
 stepMeaning (step.Refused n) = refused n
 
 -- how many bytes a size field has
-abbrev pub bytesOf : Width → ℕ
-bytesOf Four = 4
-bytesOf Eight = 8
+abbrev pub widthOf : Width → ℕ
+widthOf Four = 4
+widthOf Eight = 8
 
 -- what a stretch of the header shows, and the place after it
 abbrev pub openingMeaning : OpeningStep → Answer (Flags × ℕ)
@@ -50,17 +50,17 @@ abbrev pub textsMeaning : TextsStep → Answer (TextParts × ℕ)
 textsMeaning (textsstep.Found p m) = accepted (p, m)
 textsMeaning (textsstep.Refused n) = refused n
 
-abbrev pub wordSaid : Word → header.Word
-wordSaid word.Options = header.optionsWord
-wordSaid word.Latency = header.latencyWord
-wordSaid word.Flyrecord = header.flyWord
+abbrev pub wordMeaning : Word → header.Word
+wordMeaning word.Options = header.optionsWord
+wordMeaning word.Latency = header.latencyWord
+wordMeaning word.Flyrecord = header.flyWord
 
 abbrev pub wordSeen : ℕ → header.Word → header.Word
 wordSeen at w = w
 
-abbrev pub wordMeaning : WordStep → Answer (header.Word × ℕ)
-wordMeaning (wordstep.Found w m) = accepted (wordSaid w, m)
-wordMeaning (wordstep.Refused n) = refused n
+abbrev pub wordStepMeaning : WordStep → Answer (header.Word × ℕ)
+wordStepMeaning (wordstep.Found w m) = accepted (wordMeaning w, m)
+wordStepMeaning (wordstep.Refused n) = refused n
 
 abbrev pub tailMeaning : TailStep → Answer (TailParts × ℕ)
 tailMeaning (tailstep.Found p m) = accepted (p, m)

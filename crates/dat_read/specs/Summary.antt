@@ -4,7 +4,7 @@ use mathlib.Core.Option.{Option, none, some}
 use Prim.Native.Nat.{ℕ, _+_, _-_}
 use mathlib.Core.List.{List}
 use lib.ListN.{length}
-use Rattle.fields.specs.Lists.{flat}
+use Rattle.fields.specs.Lists.{concatMap}
 use Rattle.fields.specs.declared.Order.{Order}
 use Rattle.dat_format.specs.Pieces.{putSized}
 use Rattle.dat_format.specs.Header.{Opening, Sections, Texts, Opt, Ending, latency, flyrecord, Tail, Header, putSystem, putList, putOpening, putSections, putTexts, encode}
@@ -34,13 +34,13 @@ sectionParts o at h =
     let page = at + 20 in
     let event = page + length (h .headerPage) + 21 in
     let formats = event + length (h .headerEvent) + 4 in
-    let formatsSize = length (flat (putSized o 8) (h .formats)) in
+    let formatsSize = length (concatMap (putSized o 8) (h .formats)) in
     let systems = formats + formatsSize + 4 in
     record {
       «header_page» = part page (length (h .headerPage));
       «header_event» = part event (length (h .headerEvent));
       formats = part formats formatsSize;
-      systems = part systems (length (flat (putSystem o) (h .systems)));
+      systems = part systems (length (concatMap (putSystem o) (h .systems)));
       «format_count» = length (h .formats);
       «system_count» = length (h .systems);
     }

@@ -5,7 +5,7 @@ ghost use lib.ListN.{length};
 ghost use Rattle.fields.specs.Number.{wordAt};
 ghost use Rattle.fields.specs.Reader.{passAt};
 ghost use Rattle.dat_format.specs.Pieces.{fixed, after, sized};
-ghost use Rattle.dat_read.specs.Steps.{stepMeaning, bytesOf};
+ghost use Rattle.dat_read.specs.Steps.{stepMeaning, widthOf};
 use fields::Order;
 use refusals::BAD_CONSTANT;
 use refusals::FIELD_PAST_FILE;
@@ -38,7 +38,7 @@ pub(crate) enum Width {
 }
 
 fn bytes_of(width: Width) -> usize
-    ensures { λ r. ⌜ r ≡ bytesOf width ⌝ }
+    ensures { λ r. ⌜ r ≡ widthOf width ⌝ }
 {
     match width {
         Width::Four => 4,
@@ -47,7 +47,7 @@ fn bytes_of(width: Width) -> usize
 }
 
 fn size_at(s: &[u8], order: Order, width: Width, at: usize) -> u64
-    ensures { λ r. ⌜ r ≡ wordAt order (bytesOf width) (now (s .entry)) at ⌝ }
+    ensures { λ r. ⌜ r ≡ wordAt order (widthOf width) (now (s .entry)) at ⌝ }
 {
     match width {
         Width::Four => fields::u32_at(s, order, at) as u64,
@@ -58,7 +58,7 @@ fn size_at(s: &[u8], order: Order, width: Width, at: usize) -> u64
 // A size at `at`, and that many bytes.
 pub(crate) fn sized_at(s: &[u8], order: Order, width: Width, at: usize) -> Step
     requires { ⌜ at ≤ length (now s) ⌝ }
-    ensures { λ r. ⌜ stepMeaning r ≡ passAt (sized order (bytesOf width)) (now (s .entry)) at ⌝ }
+    ensures { λ r. ⌜ stepMeaning r ≡ passAt (sized order (widthOf width)) (now (s .entry)) at ⌝ }
 {
     let w = bytes_of(width);
     if s.len() - at < w {

@@ -6,7 +6,7 @@ ghost use Rattle.fields.specs.Reader.{seenAt, passAt};
 ghost use Rattle.dat_format.specs.Pieces.{times};
 ghost use Rattle.dat_format.specs.Decode.{word, options, range, ending, tailAfter, tail};
 ghost use Rattle.dat_format.specs.Header.{optionsWord};
-ghost use Rattle.dat_read.specs.Steps.{stepMeaning, wordSaid, wordMeaning, wordSeen, tailMeaning};
+ghost use Rattle.dat_read.specs.Steps.{stepMeaning, wordMeaning, wordStepMeaning, wordSeen, tailMeaning};
 ghost use Rattle.dat_read.specs.Summary.{endingParts, tailParts, tailPartsAfter};
 use crate::pieces;
 use crate::pieces::Step;
@@ -32,7 +32,7 @@ pub(crate) enum WordStep {
 
 fn word_at(s: &[u8], at: usize) -> WordStep
     requires { ⌜ at ≤ length (now s) ⌝ }
-    ensures { λ r. ⌜ wordMeaning r ≡ seenAt wordSeen word (now (s .entry)) at ⌝ }
+    ensures { λ r. ⌜ wordStepMeaning r ≡ seenAt wordSeen word (now (s .entry)) at ⌝ }
 {
     if s.len() - at < 10 {
         return WordStep::Refused(FIELD_PAST_FILE);
@@ -110,7 +110,7 @@ pub(crate) enum TailStep {
 // What follows the last word, which ends at `at`; after options never `options` again.
 fn ending_at(s: &[u8], order: Order, cpus: u32, word: Word, options: Part, at: usize) -> TailStep
     requires { ⌜ at ≤ length (now s) ⌝ }
-    ensures { λ r. ⌜ tailMeaning r ≡ seenAt (endingParts options) (ending order cpus (wordSaid word)) (now (s .entry)) at ⌝ }
+    ensures { λ r. ⌜ tailMeaning r ≡ seenAt (endingParts options) (ending order cpus (wordMeaning word)) (now (s .entry)) at ⌝ }
 {
     match word {
         Word::Options => TailStep::Refused(BAD_CONSTANT),

@@ -11,4 +11,5 @@ pub mod Got
 pub mod Output
 pub mod Copies
 pub mod Refuses
+pub mod Element
 pub mod Given

@@ -11,9 +11,9 @@ use lib.ListN.{length, take, drop, getD, length-take, length-drop, length-append
 use lib.Seq.{drop-cons, drop-drop, take-add, take-at, drop-at, length-take-le, take-append-le, drop-append-le}
 
 -- the bytes of all elements, one after another
-abbrev pub flat : {A : Type 0} → (A → List ℕ) → List A → List ℕ
-flat put [] = []
-flat put (x ∷ xs) = put x ++ flat put xs
+abbrev pub concatMap : {A : Type 0} → (A → List ℕ) → List A → List ℕ
+concatMap put [] = []
+concatMap put (x ∷ xs) = put x ++ concatMap put xs
 
 -- P holds of every element
 abbrev pub Each : {A : Type 0} → (A → Type 0) → List A → Type 0
@@ -21,9 +21,9 @@ Each P [] = Unit {0}
 Each P (x ∷ xs) = P x × Each P xs
 
 -- the bytes of two runs, one after the other
-pub flat-append : {A : Type 0} (f : A → List ℕ) (l m : List A) → flat f (l ++ m) ≡ flat f l ++ flat f m
-flat-append f [] m = refl
-flat-append f (x ∷ l) m = ap (λ r. f x ++ r) (flat-append f l m) ∙ sym (append-assoc (f x) (flat f l) (flat f m))
+pub concatMap-append : {A : Type 0} (f : A → List ℕ) (l m : List A) → concatMap f (l ++ m) ≡ concatMap f l ++ concatMap f m
+concatMap-append f [] m = refl
+concatMap-append f (x ∷ l) m = ap (λ r. f x ++ r) (concatMap-append f l m) ∙ sym (append-assoc (f x) (concatMap f l) (concatMap f m))
 
 pub each-append : {A : Type 0} (P : A → Type 0) (l m : List A) → Each P l → Each P m → Each P (l ++ m)
 each-append P [] m h k = k

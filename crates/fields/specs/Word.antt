@@ -1,7 +1,7 @@
 -- A word at a list's front, and lists of the same bytes.
 -- Assumes nothing.
 use mathlib.Core.Path.{_≡_, refl, sym, ap, ap₂}
-use mathlib.Core.Bool.{Bool, true, false, _&&_}
+use mathlib.Core.Bool.{Bool, true, false, _&&_, and-false}
 use Prim.Native.Nat.{ℕ, _+_, _<_, _≤_}
 use native.Mathlib.Omega.{arith}
 use mathlib.Core.List.{List, [], _∷_}
@@ -16,10 +16,6 @@ starts [] l = true
 starts (x ∷ word) [] = false
 starts (x ∷ word) (y ∷ l) = eqb x y && starts word l
 
-and-no : (b : Bool) → b && false ≡ false
-and-no true = refl
-and-no false = refl
-
 pub and-inv : (p q : Bool) → p && q ≡ true → (p ≡ true) × (q ≡ true)
 and-inv true q e = (refl, e)
 and-inv false q e = clash (cc)
@@ -27,7 +23,7 @@ and-inv false q e = clash (cc)
 pub starts-short : (w l : List ℕ) → length l < length w → starts w l ≡ false
 starts-short [] l h = absurd (omega arith)
 starts-short (x ∷ w) [] h = refl
-starts-short (x ∷ w) (y ∷ l) h = rw (starts-short w l (omega arith)) (and-no (eqb x y))
+starts-short (x ∷ w) (y ∷ l) h = rw (starts-short w l (omega arith)) (and-false (eqb x y))
 
 pub starts-front : (w l : List ℕ) → starts w (take (length w) l) ≡ starts w l
 starts-front [] l = refl

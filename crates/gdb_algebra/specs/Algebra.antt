@@ -16,7 +16,7 @@ use native.Mathlib.Omega.{arith}
 use mathlib.Core.List.{List, _++_}
 use lib.ListN.{length}
 use Rattle.refusals.specs.Refusal.{limit}
-use Rattle.fields.specs.Lists.{flat}
+use Rattle.fields.specs.Lists.{concatMap}
 use Rattle.fields.specs.Answer.{accepted}
 use Rattle.gdb_format.specs.Trace.{Trace, traceOf, opening, putFrame, encode}
 use Rattle.gdb_format.specs.Layout.{Layout}
@@ -26,8 +26,8 @@ use Rattle.gdb_format.specs.declared.Format.{Format}
 use Rattle.gdb_frames.specs.File.{same-lines}
 use Rattle.gdb_cut.specs.Selection as meant
 use Rattle.gdb_cut.specs.Selection.{picks, opposite, meaning, against}
-use Rattle.gdb_cut.specs.Cut.{sift, cut}
-use Rattle.gdb_cut.specs.CutLaws.{sift-append, cut-cut, cut-comm, cut-lengths, cut-shorter}
+use Rattle.gdb_cut.specs.Cut.{filter, cut}
+use Rattle.gdb_cut.specs.CutLaws.{filter-append, cut-cut, cut-comm, cut-lengths, cut-shorter}
 use Rattle.gdb_join.specs.Join.{join, joinOf}
 use Rattle.gdb_join.specs.JoinTraces.{join-assoc, join-bare, join-longer}
 use Rattle.gdb_algebra.specs.Plan.{Plan, file, cutting, joining, value, HasRoom, bareOpening, result, returned, Done, Same, Given, JoinsFit, OutputsFit}
@@ -37,7 +37,7 @@ use Rattle.gdb_cut.specs.declared.Selection.{Selection}
 
 -- a cut of a join, on traces
 cut-join : (c : meant.Selection) (t u : Trace) → cut c (join t u) ≡ join (cut c t) (cut c u)
-cut-join c t u = rw (sift-append (picks c) (t .frames) (u .frames))
+cut-join c t u = rw (filter-append (picks c) (t .frames) (u .frames))
 
 -- identical openings are identical lines
 pub one-opening : (f : Format) (t u : Trace) → Layout f t → Layout f u → opening (t .lines) ≡ opening (u .lines) → t .lines ≡ u .lines
@@ -90,7 +90,7 @@ module _ (s : Settings) (f : Format) (ls : List (List ℕ)) where
   -- "and both equal the opening followed by exactly the frames that A and B both select, in file order."
   module _ (p : Plan) (a b : Selection) (o₁ o₂ : List ℕ) where
     abbrev bothSelect : List ℕ
-    bothSelect = flat (putFrame f) (sift (λ x. picks (meaning a) x && picks (meaning b) x) ((value p) .frames))
+    bothSelect = concatMap (putFrame f) (filter (λ x. picks (meaning a) x && picks (meaning b) x) ((value p) .frames))
 
     pub cuts-both : let c = cutting b o₁ (cutting a o₂ p) in Given s f ls c → JoinsFit f c → OutputsFit s c → Done s c × (result s c ≡ opening ls ++ bothSelect)
     unfolding encode

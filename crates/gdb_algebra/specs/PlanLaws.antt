@@ -27,8 +27,8 @@ use Rattle.gdb_algebra.specs.Plan.{result, returned, Done, Same, Given, 
 -- ---- one call
 
 -- a call with room gives all its bytes, and the output up to the returned length is those
-written : (x : Answer (List ℕ)) (out c : List ℕ) → x ≡ accepted c → HasRoom x out → IsWritten (answer x out) × (upTo (answer x out) (exit x out) ≡ c)
-written x out c e h = rw (e, le-leb (length c) (length out) (h c e)) (tt, take-at c (drop (length c) out) (length c) refl)
+result-written : (x : Answer (List ℕ)) (out c : List ℕ) → x ≡ accepted c → HasRoom x out → IsWritten (answer x out) × (upTo (answer x out) (exit x out) ≡ c)
+result-written x out c e h = rw (e, le-leb (length c) (length out) (h c e)) (tt, take-at c (drop (length c) out) (length c) refl)
 
 -- a call that is not refused returns the length of what it leaves
 answers-length : (x : Answer (List ℕ)) (out : List ℕ) → IsWritten (answer x out) → answer x out ≡ accepted (length (upTo (answer x out) (exit x out)))
@@ -76,14 +76,14 @@ module _ (s : Settings) (f : Format) (ls : List (List ℕ)) where
   runs (cutting c out p) g j o =
       let r = runs p (g .0) j (o .0) in
       let e = cut-call s f (settled p (g .0)) c (result s p) (value p) (g .1) (r .held) in
-      let w = written (cutOf s c (result s p)) out (encode f (cut (meaning c) (value p))) e (o .1) in
+      let w = result-written (cutOf s c (result s p)) out (encode f (cut (meaning c) (value p))) e (o .1) in
       record { done = (r .done, w .0); held = record { fits = layout-cut f (meaning c) (value p) (r .held .fits); laid-out = sym (w .1) } }
   runs (joining out p q) g j o =
       let r = runs p (g .0) (j .0) (o .0) in
       let v = runs q (g .1) (j .1) (o .1) in
       let l : (value p) .lines ≡ (value q) .lines = lines-of p (g .0) ∙ sym (lines-of q (g .1)) in
       let e = join-call s f (settled p (g .0)) (result s p) (result s q) (value p) (value q) (r .held) (v .held) l (j .2) in
-      let w = written (joinOf s (result s p) (result s q)) out (encode f (join (value p) (value q))) e (o .2) in
+      let w = result-written (joinOf s (result s p) (result s q)) out (encode f (join (value p) (value q))) e (o .2) in
       record {
         done = (r .done, v .done, w .0);
         held = record { fits = layout-join f (value p) (value q) (r .held .fits) (v .held .fits) l (j .2); laid-out = sym (w .1) };

@@ -11,16 +11,15 @@ use lib.Seq.{take-at}
 use Rattle.fields.specs.Lists.{Each, clash}
 use Rattle.fields.specs.Number.{field, number, number-field, length-field}
 use Rattle.fields.specs.Answer.{Answer, accepted, refused, never, accepted-one}
+use Rattle.fields.specs.Element.{nth, each-nth}
 use Rattle.gdb_format.specs.Trace.{Frame, Trace, putFrame}
 use Rattle.gdb_format.specs.Lines.{registerSize}
 use Rattle.gdb_format.specs.Layout.{FrameFits}
 use Rattle.gdb_format.specs.Decode.{decode}
 use Rattle.gdb_format.specs.declared.Format.{Format}
-use Rattle.gdb_frames.specs.Places.{nth}
 use Rattle.gdb_frames.specs.File.{File, decode-file}
-use Rattle.gdb_frames.specs.PlaceLaws.{each-nth}
 use Rattle.gdb_cut.specs.Selection.{Selection, selects, picks, opposite}
-use Rattle.gdb_cut.specs.Cut.{sift, cut}
+use Rattle.gdb_cut.specs.Cut.{filter, cut}
 use Rattle.gdb_cut.specs.CutLaws.{picks-other}
 
 -- ---- definitions
@@ -32,7 +31,7 @@ framesOf f (refused n) = []
 
 -- how many frames before n a selection selects
 abbrev pub countOf : Selection → ℕ → Answer Trace → ℕ
-countOf c n (accepted t) = length (sift (picks c) (take n (t .frames)))
+countOf c n (accepted t) = length (filter (picks c) (take n (t .frames)))
 countOf c n (refused m) = 0
 
 -- the same of a file
@@ -75,36 +74,36 @@ module _ {A B : Type 0} (g : A → B) where
 
 module _ {A : Type 0} (p : A → Bool) where
   -- element n, where it is kept, is element k of what is kept, k being the number kept before it
-  stands : (l : List A) (n : ℕ) (x : A) → nth l n ≡ accepted x → p x ≡ true → nth (sift p l) (length (sift p (take n l))) ≡ accepted x
+  stands : (l : List A) (n : ℕ) (x : A) → nth l n ≡ accepted x → p x ≡ true → nth (filter p l) (length (filter p (take n l))) ≡ accepted x
   stands [] n x e h = never e
   stands (y ∷ l) zero x e h = let q : y ≡ x = accepted-one e in rw (q, h)
   stands (y ∷ l) (suc n) x e h = by (p y) (stands l n x e h)
     where
-      by : (t : Bool) → nth (sift p l) (length (sift p (take n l))) ≡ accepted x
-          → nth (cond t (y ∷ sift p l) (sift p l)) (length (cond t (y ∷ sift p (take n l)) (sift p (take n l)))) ≡ accepted x
+      by : (t : Bool) → nth (filter p l) (length (filter p (take n l))) ≡ accepted x
+          → nth (cond t (y ∷ filter p l) (filter p l)) (length (cond t (y ∷ filter p (take n l)) (filter p (take n l)))) ≡ accepted x
       by true e = e
       by false e = e
 
   -- what is kept is element n, n being preceded by as many that are kept
-  sift-from : (l : List A) (k : ℕ) (g : A) → nth (sift p l) k ≡ accepted g → (n : ℕ) × (nth l n ≡ accepted g) × (p g ≡ true) × (length (sift p (take n l)) ≡ k)
-  sift-from [] k g e = never e
-  sift-from (x ∷ l) k g e = by (p x) refl k (λ k e. sift-from l k g e) e
+  filter-from : (l : List A) (k : ℕ) (g : A) → nth (filter p l) k ≡ accepted g → (n : ℕ) × (nth l n ≡ accepted g) × (p g ≡ true) × (length (filter p (take n l)) ≡ k)
+  filter-from [] k g e = never e
+  filter-from (x ∷ l) k g e = by (p x) refl k (λ k e. filter-from l k g e) e
     where
-      by : (t : Bool) → p x ≡ t → (k : ℕ) → ((k : ℕ) → nth (sift p l) k ≡ accepted g → (n : ℕ) × (nth l n ≡ accepted g) × (p g ≡ true) × (length (sift p (take n l)) ≡ k))
-          → nth (cond t (x ∷ sift p l) (sift p l)) k ≡ accepted g → (n : ℕ) × (nth (x ∷ l) n ≡ accepted g) × (p g ≡ true) × (length (sift p (take n (x ∷ l))) ≡ k)
+      by : (t : Bool) → p x ≡ t → (k : ℕ) → ((k : ℕ) → nth (filter p l) k ≡ accepted g → (n : ℕ) × (nth l n ≡ accepted g) × (p g ≡ true) × (length (filter p (take n l)) ≡ k))
+          → nth (cond t (x ∷ filter p l) (filter p l)) k ≡ accepted g → (n : ℕ) × (nth (x ∷ l) n ≡ accepted g) × (p g ≡ true) × (length (filter p (take n (x ∷ l))) ≡ k)
       by true h zero ih e = (0, e, subst (λ z. p z ≡ true) (accepted-one e) h, refl)
       by true h (suc k) ih e = let q = ih k e in (suc (q .0), q .1, q .2, rw h (ap suc (q .3)))
       by false h k ih e = let q = ih k e in (suc (q .0), q .1, q .2, rw h (q .3))
 
   -- of two that are kept, the later has more before it
-  before-grows : (l : List A) (n m : ℕ) (x : A) → nth l n ≡ accepted x → p x ≡ true → n < m → length (sift p (take n l)) < length (sift p (take m l))
+  before-grows : (l : List A) (n m : ℕ) (x : A) → nth l n ≡ accepted x → p x ≡ true → n < m → length (filter p (take n l)) < length (filter p (take m l))
   before-grows [] n m x e h k = never e
   before-grows (y ∷ l) n zero x e h k = absurd (omega arith)
   before-grows (y ∷ l) zero (suc m) x e h k = let q : p y ≡ true = ap p (accepted-one e) ∙ h in rw q (omega arith)
   before-grows (y ∷ l) (suc n) (suc m) x e h k = by (p y) (before-grows l n m x e h (omega arith))
     where
-      by : (t : Bool) → length (sift p (take n l)) < length (sift p (take m l))
-          → length (cond t (y ∷ sift p (take n l)) (sift p (take n l))) < length (cond t (y ∷ sift p (take m l)) (sift p (take m l)))
+      by : (t : Bool) → length (filter p (take n l)) < length (filter p (take m l))
+          → length (cond t (y ∷ filter p (take n l)) (filter p (take n l))) < length (cond t (y ∷ filter p (take m l)) (filter p (take m l)))
       by true q = omega arith
       by false q = q
 
@@ -130,15 +129,15 @@ module _ (f : Format) (c : Selection) (b d : List ℕ) (t : Trace) (i : File f b
       record {
         bytes = putFrame f x;
         there = ap (λ z. nth (framesOf f z) n) db ∙ nth-map (putFrame f) (t .frames) n x e;
-        here = ap₂ (λ z w. nth (framesOf f z) (countOf c n w)) dd db ∙ nth-map (putFrame f) (sift (picks c) (t .frames)) _ x (stands (picks c) (t .frames) n x e h);
+        here = ap₂ (λ z w. nth (framesOf f z) (countOf c n w)) dd db ∙ nth-map (putFrame f) (filter (picks c) (t .frames)) _ x (stands (picks c) (t .frames) n x e h);
       }
 
   -- what stands is selected
   chosen : (n : ℕ) (x : Frame) → nth (t .frames) n ≡ accepted x → StandsIn f c b d n → picks c x ≡ true
   chosen n x e w =
       let u = nth-unmap (putFrame f) (t .frames) n (w .bytes) (sym (ap (λ z. nth (framesOf f z) n) db) ∙ w .there) in
-      let v = nth-unmap (putFrame f) (sift (picks c) (t .frames)) _ (w .bytes) (sym (ap₂ (λ z w. nth (framesOf f z) (countOf c n w)) dd db) ∙ w .here) in
-      let k = sift-from (picks c) (t .frames) _ (v .0) (v .1) in
+      let v = nth-unmap (putFrame f) (filter (picks c) (t .frames)) _ (w .bytes) (sym (ap₂ (λ z w. nth (framesOf f z) (countOf c n w)) dd db) ∙ w .here) in
+      let k = filter-from (picks c) (t .frames) _ (v .0) (v .1) in
       let fits = i .fits .frames-fit in
       let q : x .tracepoint ≡ (v .0) .tracepoint =
       same-number f x (v .0) ((each-nth (FrameFits f (registerSize f (t .lines))) (t .frames) n x fits e) .0) ((each-nth (FrameFits f (registerSize f (t .lines))) (t .frames) (k .0) (v .0) fits (k .1)) .0)
@@ -154,8 +153,8 @@ module _ (f : Format) (c : Selection) (b d : List ℕ) (t : Trace) (i : File f b
   -- no other frame: each frame of the cut is one that stands there
   no-other : (k : ℕ) → k < length (framesOf f (decode f d)) → (n : ℕ) × StandsIn f c b d n × (before f c b n ≡ k)
   no-other k h =
-      let x = nth-some (putFrame f) (sift (picks c) (t .frames)) k (subst (λ z. k < length (framesOf f z)) dd h) in
-      let q = sift-from (picks c) (t .frames) k (x .0) (x .1) in
+      let x = nth-some (putFrame f) (filter (picks c) (t .frames)) k (subst (λ z. k < length (framesOf f z)) dd h) in
+      let q = filter-from (picks c) (t .frames) k (x .0) (x .1) in
       (q .0, made (q .0) (x .0) (q .1) (q .2), ap (countOf c (q .0)) db ∙ q .3)
 
   pub holds-frames : HoldsFrames f c b d

@@ -9,7 +9,7 @@ use lib.ListN.{length}
 use Rattle.refusals.specs.Refusal.{notFound}
 use Rattle.fields.specs.Lists.{Each}
 use Rattle.fields.specs.Answer.{accepted, refused, next, never, accepted-one}
-use Rattle.gdb_frames.specs.Places.{nth}
+use Rattle.fields.specs.Element.{nth}
 use Rattle.gdb_blocks.specs.Search.{orLater, earliest}
 
 -- y is what `g` finds in the earliest element where it finds something: it finds nothing in those before

@@ -7,13 +7,14 @@ use lib.ListN.{length, take, drop}
 use Rattle.fields.specs.Lists.{part-front}
 use Rattle.fields.specs.Number.{Bytes}
 use Rattle.fields.specs.Answer.{Answer, accepted, refused, next}
+use Rattle.fields.specs.Element.{nth}
 use Rattle.gdb_format.specs.Trace.{Frame, Trace, opening, putLine, putFrame, dataOf}
 use Rattle.gdb_format.specs.Lines.{kindOf}
 use Rattle.gdb_format.specs.declared.Settings.{Settings}
 use Rattle.gdb_format.specs.declared.Format.{Format}
 use Rattle.gdb_format.specs.declared.LineKind.{LineKind}
 use Rattle.gdb_read.specs.Steps.{frameSeen}
-use Rattle.gdb_frames.specs.Places.{linesAt, framesAt, nth}
+use Rattle.gdb_frames.specs.Places.{linesAt, framesAt}
 use Rattle.gdb_frames.specs.Questions.{asked, dataIn, frameData, linePlace}
 use Rattle.gdb_frames.specs.File.{File}
 use Rattle.gdb_frames.specs.PlaceLaws.{placed-nth, placed-is, frame-within, data-there, line-is}

@@ -10,9 +10,9 @@ use lib.IntN.{ℤ}
 use lib.Dec.{ltb, eqb}
 use Rattle.fields.specs.Lists.{Each}
 use Rattle.fields.specs.Answer.{Answer, accepted, refused, next}
+use Rattle.fields.specs.Element.{nth}
 use Rattle.gdb_format.specs.Trace.{Block, registers, memory, variable, Frame, Trace}
 use Rattle.gdb_format.specs.declared.Format.{Format}
-use Rattle.gdb_frames.specs.Places.{nth}
 use Rattle.gdb_blocks.specs.Search.{earliest, offset}
 
 -- ---- a block

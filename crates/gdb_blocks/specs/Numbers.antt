@@ -6,11 +6,12 @@ use mathlib.Core.List.{List, [], _∷_}
 use Rattle.refusals.specs.Refusal.{notFound}
 use Rattle.fields.specs.Answer.{Answer}
 use Rattle.fields.specs.Refuses.{Refuses, OneOf, refuses-never, refuses-with, refuses-next}
+use Rattle.fields.specs.Element.{nth-numbers}
 use Rattle.gdb_format.specs.Trace.{Block}
 use Rattle.gdb_format.specs.declared.Settings.{Settings}
 use Rattle.gdb_frames.specs.Places.{framesAt, blocksAt}
 use Rattle.gdb_frames.specs.Questions.{asked}
-use Rattle.gdb_frames.specs.Numbers.{questionNumbers, nth-numbers, asked-numbers}
+use Rattle.gdb_frames.specs.Numbers.{questionNumbers, asked-numbers}
 use Rattle.gdb_blocks.specs.Search.{orLater, earliest, registersIn, memoryIn, valueIn, inFrame, nthSeen, blockAt, registersAt, memoryAt, variableAt}
 
 earliest-numbers : {P : ℕ → Type 0} {A B : Type 0} (g : A → Option B) (xs : List A) → P notFound → Refuses P (earliest g xs)

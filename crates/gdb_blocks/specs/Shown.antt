@@ -14,6 +14,7 @@ use Rattle.refusals.specs.Refusal.{notFound}
 use Rattle.fields.specs.Lists.{clash, piece-there}
 use Rattle.fields.specs.Number.{Bytes}
 use Rattle.fields.specs.Answer.{Answer, accepted, refused, next, next-inv, accepted-inj}
+use Rattle.fields.specs.Element.{nth, each-nth}
 use Rattle.gdb_format.specs.Trace.{Block, registers, memory, variable, Frame, Trace, opening, putBlock, putFrame}
 use Rattle.gdb_format.specs.Lines.{registerSize}
 use Rattle.gdb_format.specs.Layout.{BlockFits, FrameFits}
@@ -21,10 +22,10 @@ use Rattle.gdb_format.specs.Decode.{read}
 use Rattle.gdb_format.specs.declared.Settings.{Settings}
 use Rattle.gdb_format.specs.declared.Format.{Format}
 use Rattle.gdb_data.specs.Blocks.{Carried, carriedBy}
-use Rattle.gdb_frames.specs.Places.{framesAt, blocksAt, nth}
+use Rattle.gdb_frames.specs.Places.{framesAt, blocksAt}
 use Rattle.gdb_frames.specs.Questions.{asked, Handed}
 use Rattle.gdb_frames.specs.File.{file-of}
-use Rattle.gdb_frames.specs.PlaceLaws.{placed-there, placed-is, each-nth, data-behind}
+use Rattle.gdb_frames.specs.PlaceLaws.{placed-there, placed-is, data-behind}
 use Rattle.gdb_blocks.specs.Search.{registersIn, memoryIn, blockAt, registersAt, memoryAt, variableAt}
 use Rattle.gdb_blocks.specs.Earliest.{Earliest, earliest-is, earliest-nth}
 use Rattle.gdb_blocks.specs.Held.{registersOf, memoryOf, valueOf, heldIn, Missing, blockHeld, mapped, named, withLength, orEmpty}

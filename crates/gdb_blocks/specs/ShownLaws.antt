@@ -12,19 +12,19 @@ use lib.Seq.{take-all}
 use lib.Dec.{ltb}
 use borrow.Author.Tests.{ltb-true}
 use Rattle.refusals.specs.Refusal.{notFound}
-use Rattle.fields.specs.Lists.{flat, regroup, part-behind, part-there, piece-there}
+use Rattle.fields.specs.Lists.{concatMap, regroup, part-behind, part-there, piece-there}
 use Rattle.fields.specs.Number.{Bytes, field, length-field}
 use Rattle.fields.specs.Answer.{Answer, accepted, refused, next, never, next-cong, next-assoc, refused-inv, accepted-inj}
+use Rattle.fields.specs.Element.{nth, nth-refused}
 use Rattle.gdb_format.specs.Trace.{Block, registers, memory, variable, Frame, Trace, opening, putBlock, putFrame}
 use Rattle.gdb_format.specs.Decode.{read}
 use Rattle.gdb_format.specs.declared.Settings.{Settings}
 use Rattle.gdb_format.specs.declared.Format.{Format}
 use Rattle.gdb_data.specs.Blocks.{carriedBy, blockSeen}
-use Rattle.gdb_frames.specs.Places.{placed, framesAt, blocksAt, nth, part}
+use Rattle.gdb_frames.specs.Places.{placed, framesAt, blocksAt, part}
 use Rattle.gdb_frames.specs.Questions.{asked}
 use Rattle.gdb_frames.specs.File.{File, file-of}
 use Rattle.gdb_frames.specs.PlaceLaws.{placed-then, data-behind}
-use Rattle.gdb_frames.specs.Located.{nth-refused}
 use Rattle.gdb_blocks.specs.Search.{orLater, earliest, offset, registersIn, memoryIn, valueIn, inFrame, blockAt, variableAt}
 use Rattle.gdb_blocks.specs.Held.{registersOf, memoryOf, valueOf, heldIn, Missing, blockHeld, mapped, named, withLength, orEmpty}
 use Rattle.gdb_blocks.specs.Earliest.{earliest-none, earliest-map}
@@ -81,13 +81,13 @@ memory-named f b a at (variable m x) rest e = refl
 -- ---- the blocks of a frame
 
 module _ {B : Type 0} (f : Format) (b : List ℕ) (place : ℕ × Block → Option B) (g : Block → Option B) (same : Agrees f b place g) where
-  earliest-placed : (xs : List Block) (at : ℕ) (rest : List ℕ) → drop at b ≡ flat (putBlock f) xs ++ rest
+  earliest-placed : (xs : List Block) (at : ℕ) (rest : List ℕ) → drop at b ≡ concatMap (putBlock f) xs ++ rest
       → earliest place (placed (putBlock f) at xs) ≡ earliest g xs
   earliest-placed [] at rest e = refl
   earliest-placed (x ∷ xs) at rest e =
-      let i : drop at b ≡ putBlock f x ++ (flat (putBlock f) xs ++ rest) = e ∙ append-assoc (putBlock f x) (flat (putBlock f) xs) rest in
-      let j : drop (at + length (putBlock f x)) b ≡ flat (putBlock f) xs ++ rest = part-behind b at (putBlock f x) (flat (putBlock f) xs) rest (sym i) in
-      ap₂ orLater (same at x (flat (putBlock f) xs ++ rest) i) (earliest-placed xs (at + length (putBlock f x)) rest j)
+      let i : drop at b ≡ putBlock f x ++ (concatMap (putBlock f) xs ++ rest) = e ∙ append-assoc (putBlock f x) (concatMap (putBlock f) xs) rest in
+      let j : drop (at + length (putBlock f x)) b ≡ concatMap (putBlock f) xs ++ rest = part-behind b at (putBlock f x) (concatMap (putBlock f) xs) rest (sym i) in
+      ap₂ orLater (same at x (concatMap (putBlock f) xs ++ rest) i) (earliest-placed xs (at + length (putBlock f x)) rest j)
 
   found-held : (t : Trace) (n : ℕ) → File f b t → inFrame (earliest place) n f t ≡ heldIn g n f t
   found-held t n i =

@@ -11,7 +11,7 @@ use lib.Dec.{leb}
 use lib.Seq.{length-take-le}
 use borrow.Author.Tests.{le-leb}
 use Rattle.refusals.specs.Refusal.{badArgument}
-use Rattle.fields.specs.Lists.{flat, Each}
+use Rattle.fields.specs.Lists.{concatMap, Each}
 use Rattle.fields.specs.Number.{Bytes, bytes-drop}
 use Rattle.fields.specs.Answer.{accepted, refused, refused-inv}
 use Rattle.fields.specs.Reader.{toEnd}
@@ -27,7 +27,7 @@ use Rattle.gdb_format.specs.declared.Format.{Format}
 use Rattle.gdb_read.specs.Steps.{Summary, summaryOf, readSeen}
 use Rattle.gdb_frames.specs.File.{File, frames-behind, start-within, opening-front, told}
 use Rattle.gdb_cut.specs.Selection.{Selection, selects, picks, meaning, valid}
-use Rattle.gdb_cut.specs.Cut.{sift, cut, cutOf}
+use Rattle.gdb_cut.specs.Cut.{filter, cut, cutOf}
 use Rattle.gdb_cut.specs.Kept.{keptOf, kept, Heads}
 use Rattle.gdb_cut.specs.declared.Selection as lent
 
@@ -46,7 +46,7 @@ cut-refused s c b n v e = rw (v, refused-inv n (read s b) (λ r. summaryOf (r .0
 abbrev headIn : Format → Frame → ℕ × List ℕ
 headIn f r = (r .tracepoint, dataOf f r)
 
-heads-bytes : (f : Format) (fs : List Frame) → flat (putData f) (map (headIn f) fs) ≡ flat (putFrame f) fs
+heads-bytes : (f : Format) (fs : List Frame) → concatMap (putData f) (map (headIn f) fs) ≡ concatMap (putFrame f) fs
 heads-bytes f [] = refl
 heads-bytes f (r ∷ fs) = ap (λ x. putFrame f r ++ x) (heads-bytes f fs)
 
@@ -54,18 +54,18 @@ heads-fit : (f : Format) (size : Option ℕ) (fs : List Frame) → Each (FrameFi
 heads-fit f size [] h = tt
 heads-fit f size (r ∷ fs) h = ((h .0 .0, h .0 .1), heads-fit f size fs (h .1))
 
-heads-of : (f : Format) (size : Option ℕ) (fs : List Frame) → Each (FrameFits f size) fs → toEnd (frameHead f) (flat (putFrame f) fs) ≡ accepted (map (headIn f) fs)
+heads-of : (f : Format) (size : Option ℕ) (fs : List Frame) → Each (FrameFits f size) fs → toEnd (frameHead f) (concatMap (putFrame f) fs) ≡ accepted (map (headIn f) fs)
 heads-of f size fs h =
     rw (← heads-bytes f fs) (back-toEnd (exact-head f) (shorter 1 (frameHead f) (omega arith) (takes-head f)) (map (headIn f) fs) (heads-fit f size fs h))
 
 -- the heads that are kept are those of the frames that are
-kept-frames : (f : Format) (c : Selection) (fs : List Frame) → flat (putData f) (sift (λ h. selects c (h .0)) (map (headIn f) fs)) ≡ flat (putFrame f) (sift (picks c) fs)
+kept-frames : (f : Format) (c : Selection) (fs : List Frame) → concatMap (putData f) (filter (λ h. selects c (h .0)) (map (headIn f) fs)) ≡ concatMap (putFrame f) (filter (picks c) fs)
 kept-frames f c [] = refl
 kept-frames f c (r ∷ fs) = by (picks c r) (kept-frames f c fs)
   where
-    by : (t : Bool) → flat (putData f) (sift (λ h. selects c (h .0)) (map (headIn f) fs)) ≡ flat (putFrame f) (sift (picks c) fs)
-        → flat (putData f) (cond t (headIn f r ∷ sift (λ h. selects c (h .0)) (map (headIn f) fs)) (sift (λ h. selects c (h .0)) (map (headIn f) fs)))
-        ≡ flat (putFrame f) (cond t (r ∷ sift (picks c) fs) (sift (picks c) fs))
+    by : (t : Bool) → concatMap (putData f) (filter (λ h. selects c (h .0)) (map (headIn f) fs)) ≡ concatMap (putFrame f) (filter (picks c) fs)
+        → concatMap (putData f) (cond t (headIn f r ∷ filter (λ h. selects c (h .0)) (map (headIn f) fs)) (filter (λ h. selects c (h .0)) (map (headIn f) fs)))
+        ≡ concatMap (putFrame f) (cond t (r ∷ filter (picks c) fs) (filter (picks c) fs))
     by true e = ap (λ x. putFrame f r ++ x) e
     by false e = e
 
@@ -73,7 +73,7 @@ module _ (f : Format) (b : List ℕ) (t : Trace) (i : File f b t) where
   heads-in : toEnd (frameHead f) (drop (length (opening (t .lines))) b) ≡ accepted (map (headIn f) (t .frames))
   heads-in = rw (frames-behind f b t i) (heads-of f (registerSize f (t .lines)) (t .frames) (i .fits .frames-fit))
 
-  kept-in : (c : Selection) → kept f c (drop (length (opening (t .lines))) b) ≡ flat (putFrame f) (sift (picks c) (t .frames))
+  kept-in : (c : Selection) → kept f c (drop (length (opening (t .lines))) b) ≡ concatMap (putFrame f) (filter (picks c) (t .frames))
   unfolding kept
   kept-in c = ap (keptOf f c) heads-in ∙ kept-frames f c (t .frames)
 
@@ -87,39 +87,39 @@ module _ (s : Settings) (b : List ℕ) (h : Bytes b) (m : Summary) (e : accepted
   start-there = told s b h m e (λ m. m .start ≤ length b) (λ f t r i. start-within f b t i)
 
   -- the bytes that the code writes
-  abbrev pub written : lent.Selection → List ℕ
-  written c = take (m .start) b ++ kept (m .format) (meaning c) (drop (m .start) b)
+  abbrev pub cutResult : lent.Selection → List ℕ
+  cutResult c = take (m .start) b ++ kept (m .format) (meaning c) (drop (m .start) b)
 
   cut-read : (c : lent.Selection) (f : Format) (t : Trace) → valid c ≡ true → read s b ≡ accepted (f, t) → cutOf s c b ≡ accepted (encode f (cut (meaning c) t))
   unfolding cutOf
   cut-read c f t v r = rw (v, r)
 
-  pub cut-gives : (c : lent.Selection) → valid c ≡ true → cutOf s c b ≡ accepted (written c)
+  pub cut-gives : (c : lent.Selection) → valid c ≡ true → cutOf s c b ≡ accepted (cutResult c)
   unfolding encode
   cut-gives c v =
       told s b h m e (λ m. cutOf s c b ≡ accepted (take (m .start) b ++ kept (m .format) (meaning c) (drop (m .start) b)))
       (λ f t r i. cut-read c f t v r ∙ ap accepted (sym (ap₂ (λ x z. x ++ z) (opening-front f b t i) (kept-in f b t i (meaning c)))))
 
-  pub written-long : (c : lent.Selection) → length (written c) ≡ m .start + length (kept (m .format) (meaning c) (drop (m .start) b))
+  pub written-long : (c : lent.Selection) → length (cutResult c) ≡ m .start + length (kept (m .format) (meaning c) (drop (m .start) b))
   written-long c =
       omega (arith, length-append (take (m .start) b) (kept (m .format) (meaning c) (drop (m .start) b)), length-take-le (m .start) b start-there)
 
 -- ---- the room
 
-sifted-less : {A : Type 0} (put : A → List ℕ) (p : A → Bool) (xs : List A) → length (flat put (sift p xs)) ≤ length (flat put xs)
+sifted-less : {A : Type 0} (put : A → List ℕ) (p : A → Bool) (xs : List A) → length (concatMap put (filter p xs)) ≤ length (concatMap put xs)
 sifted-less put p [] = omega arith
 sifted-less put p (x ∷ xs) = by (p x) (sifted-less put p xs)
   where
-    by : (t : Bool) → length (flat put (sift p xs)) ≤ length (flat put xs) → length (flat put (cond t (x ∷ sift p xs) (sift p xs))) ≤ length (put x ++ flat put xs)
-    by true h = omega (arith, h, length-append (put x) (flat put (sift p xs)), length-append (put x) (flat put xs))
-    by false h = omega (arith, h, length-append (put x) (flat put xs))
+    by : (t : Bool) → length (concatMap put (filter p xs)) ≤ length (concatMap put xs) → length (concatMap put (cond t (x ∷ filter p xs) (filter p xs))) ≤ length (put x ++ concatMap put xs)
+    by true h = omega (arith, h, length-append (put x) (concatMap put (filter p xs)), length-append (put x) (concatMap put xs))
+    by false h = omega (arith, h, length-append (put x) (concatMap put xs))
 
 -- what is kept is no longer than what it is kept of
 kept-less : (f : Format) (c : Selection) (b : List ℕ) → Bytes b → Heads f b → length (kept f c b) ≤ length b
 unfolding kept
 kept-less f c b hb h =
     let e = (forth-toEnd (exact-head f) (shorter 1 (frameHead f) (omega arith) (takes-head f)) b (h .0) hb (h .1)) .1 in
-    let k : length (keptOf f c (toEnd (frameHead f) b)) ≡ length (flat (putData f) (sift (λ g. selects c (g .0)) (h .0))) = ap (λ x. length (keptOf f c x)) (h .1) in
+    let k : length (keptOf f c (toEnd (frameHead f) b)) ≡ length (concatMap (putData f) (filter (λ g. selects c (g .0)) (h .0))) = ap (λ x. length (keptOf f c x)) (h .1) in
     omega (arith, k, sifted-less (putData f) (λ g. selects c (g .0)) (h .0), ap length e)
 
 pub room-for-file : (f : Format) (c : Selection) (b : List ℕ) (start room : ℕ) → Bytes b → start ≤ length b → Heads f (drop start b) → length b ≤ room

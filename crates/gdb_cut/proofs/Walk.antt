@@ -8,7 +8,7 @@ use native.Mathlib.Omega.{arith}
 use mathlib.Core.List.{List, [], _∷_, _++_}
 use lib.ListN.{length, take, drop, length-append, length-drop}
 use lib.Seq.{take-at}
-use Rattle.fields.specs.Lists.{flat, length-part}
+use Rattle.fields.specs.Lists.{concatMap, length-part}
 use Rattle.fields.specs.Number.{Bytes, bytes-drop}
 use Rattle.fields.specs.Answer.{accepted, refused, next-inv, never}
 use Rattle.fields.specs.Reader.{toEnd, stepAt}
@@ -22,8 +22,8 @@ use Rattle.gdb_cut.specs.Selection.{Selection, selects}
 use Rattle.gdb_cut.specs.Kept.{keptOf, kept, Heads}
 
 one-kept : (f : Format) (t : Bool) (h : ℕ × List ℕ) (w : List ℕ) (l : List (ℕ × List ℕ)) → putData f h ≡ w
-    → flat (putData f) (cond t (h ∷ l) l) ≡ cond t w [] ++ flat (putData f) l
-one-kept f true h w l e = ap (λ x. x ++ flat (putData f) l) e
+    → concatMap (putData f) (cond t (h ∷ l) l) ≡ cond t w [] ++ concatMap (putData f) l
+one-kept f true h w l e = ap (λ x. x ++ concatMap (putData f) l) e
 one-kept f false h w l e = refl
 
 module _ (f : Format) (b : List ℕ) (at : ℕ) where

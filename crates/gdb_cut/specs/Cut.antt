@@ -14,13 +14,13 @@ use Rattle.gdb_cut.specs.declared.EditAnswer.the-variants.{Written, Refu
 
 -- ---- traces
 
-abbrev pub sift : {A : Type 0} → (A → Bool) → List A → List A
-sift p [] = []
-sift p (x ∷ xs) = cond (p x) (x ∷ sift p xs) (sift p xs)
+abbrev pub filter : {A : Type 0} → (A → Bool) → List A → List A
+filter p [] = []
+filter p (x ∷ xs) = cond (p x) (x ∷ filter p xs) (filter p xs)
 
 -- the opening, then every selected frame, bytes and order unchanged
 abbrev pub cut : Selection → Trace → Trace
-cut c t = withFrames t (sift (picks c) (t .frames))
+cut c t = withFrames t (filter (picks c) (t .frames))
 
 -- ---- the bytes of a cut, where the output has room
 
@@ -29,6 +29,6 @@ unfolding encode
 cutOf s sel b = next (selectionOf sel) (λ c. next (read s b) (λ r. accepted (encode (r .0) (cut c (r .1)))))
 
 -- what `EditAnswer` says
-abbrev pub editAnswer : EditAnswer → Answer ℕ
-editAnswer (Written n) = accepted n
-editAnswer (Refused n) = refused n
+abbrev pub editMeaning : EditAnswer → Answer ℕ
+editMeaning (Written n) = accepted n
+editMeaning (Refused n) = refused n

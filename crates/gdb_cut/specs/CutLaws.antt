@@ -6,7 +6,7 @@ use Prim.Native.Nat.{ℕ, _+_, _≤_}
 use native.Mathlib.Omega.{arith}
 use mathlib.Core.List.{List, [], _∷_, _++_}
 use lib.ListN.{length, length-append}
-use Rattle.fields.specs.Lists.{flat, Each}
+use Rattle.fields.specs.Lists.{concatMap, Each}
 use Rattle.fields.specs.Answer.{accepted}
 use Rattle.gdb_format.specs.Trace.{Frame, Trace, traceOf, opening, putFrame, encode}
 use Rattle.gdb_format.specs.Lines.{registerSize}
@@ -16,51 +16,51 @@ use Rattle.gdb_format.specs.declared.Settings.{Settings}
 use Rattle.gdb_format.specs.declared.Format.{Format}
 use Rattle.gdb_frames.specs.File.{File, length-encode, read-file}
 use Rattle.gdb_cut.specs.Selection.{Selection, inSome, picks, opposite, meaning, valid, against}
-use Rattle.gdb_cut.specs.Cut.{sift, cut, cutOf}
+use Rattle.gdb_cut.specs.Cut.{filter, cut, cutOf}
 use Rattle.gdb_cut.specs.declared.Selection as lent
 
 -- ---- lists
 
 module _ {A : Type 0} where
-  pub sift-append : (p : A → Bool) (l m : List A) → sift p (l ++ m) ≡ sift p l ++ sift p m
-  sift-append p [] m = refl
-  sift-append p (x ∷ l) m = by (p x) (sift-append p l m)
+  pub filter-append : (p : A → Bool) (l m : List A) → filter p (l ++ m) ≡ filter p l ++ filter p m
+  filter-append p [] m = refl
+  filter-append p (x ∷ l) m = by (p x) (filter-append p l m)
     where
-      by : (t : Bool) → sift p (l ++ m) ≡ sift p l ++ sift p m
-          → cond t (x ∷ sift p (l ++ m)) (sift p (l ++ m)) ≡ cond t (x ∷ sift p l) (sift p l) ++ sift p m
+      by : (t : Bool) → filter p (l ++ m) ≡ filter p l ++ filter p m
+          → cond t (x ∷ filter p (l ++ m)) (filter p (l ++ m)) ≡ cond t (x ∷ filter p l) (filter p l) ++ filter p m
       by true e = ap (λ r. x ∷ r) e
       by false e = e
 
-  sift-sift : (p q : A → Bool) (l : List A) → sift q (sift p l) ≡ sift (λ x. p x && q x) l
-  sift-sift p q [] = refl
-  sift-sift p q (x ∷ l) = by (p x) (q x) refl (sift-sift p q l)
+  filter-filter : (p q : A → Bool) (l : List A) → filter q (filter p l) ≡ filter (λ x. p x && q x) l
+  filter-filter p q [] = refl
+  filter-filter p q (x ∷ l) = by (p x) (q x) refl (filter-filter p q l)
     where
-      by : (t u : Bool) → q x ≡ u → sift q (sift p l) ≡ sift (λ x. p x && q x) l
-          → sift q (cond t (x ∷ sift p l) (sift p l)) ≡ cond (t && u) (x ∷ sift (λ x. p x && q x) l) (sift (λ x. p x && q x) l)
+      by : (t u : Bool) → q x ≡ u → filter q (filter p l) ≡ filter (λ x. p x && q x) l
+          → filter q (cond t (x ∷ filter p l) (filter p l)) ≡ cond (t && u) (x ∷ filter (λ x. p x && q x) l) (filter (λ x. p x && q x) l)
       by true true e f = rw (e, f)
       by true false e f = rw (e, f)
       by false u e f = f
 
-  sift-same : (p q : A → Bool) → ((x : A) → p x ≡ q x) → (l : List A) → sift p l ≡ sift q l
-  sift-same p q e [] = refl
-  sift-same p q e (x ∷ l) = rw (e x, sift-same p q e l)
+  filter-same : (p q : A → Bool) → ((x : A) → p x ≡ q x) → (l : List A) → filter p l ≡ filter q l
+  filter-same p q e [] = refl
+  filter-same p q e (x ∷ l) = rw (e x, filter-same p q e l)
 
-  sift-each : (P : A → Type 0) (p : A → Bool) (l : List A) → Each P l → Each P (sift p l)
-  sift-each P p [] h = tt
-  sift-each P p (x ∷ l) h = by (p x) (sift-each P p l (h .1))
+  filter-each : (P : A → Type 0) (p : A → Bool) (l : List A) → Each P l → Each P (filter p l)
+  filter-each P p [] h = tt
+  filter-each P p (x ∷ l) h = by (p x) (filter-each P p l (h .1))
     where
-      by : (t : Bool) → Each P (sift p l) → Each P (cond t (x ∷ sift p l) (sift p l))
+      by : (t : Bool) → Each P (filter p l) → Each P (cond t (x ∷ filter p l) (filter p l))
       by true k = (h .0, k)
       by false k = k
 
   -- kept and dropped together are all
-  flat-parts : (f : A → List ℕ) (p : A → Bool) (l : List A)
-      → length (flat f (sift p l)) + length (flat f (sift (λ x. not (p x)) l)) ≡ length (flat f l)
-  flat-parts f p [] = refl
-  flat-parts f p (x ∷ l) = by (p x) (flat-parts f p l)
+  concatMap-parts : (f : A → List ℕ) (p : A → Bool) (l : List A)
+      → length (concatMap f (filter p l)) + length (concatMap f (filter (λ x. not (p x)) l)) ≡ length (concatMap f l)
+  concatMap-parts f p [] = refl
+  concatMap-parts f p (x ∷ l) = by (p x) (concatMap-parts f p l)
     where
-      by : (t : Bool) → length (flat f (sift p l)) + length (flat f (sift (λ x. not (p x)) l)) ≡ length (flat f l)
-          → length (flat f (cond t (x ∷ sift p l) (sift p l))) + length (flat f (cond (not t) (x ∷ sift (λ x. not (p x)) l) (sift (λ x. not (p x)) l))) ≡ length (flat f (x ∷ l))
+      by : (t : Bool) → length (concatMap f (filter p l)) + length (concatMap f (filter (λ x. not (p x)) l)) ≡ length (concatMap f l)
+          → length (concatMap f (cond t (x ∷ filter p l) (filter p l))) + length (concatMap f (cond (not t) (x ∷ filter (λ x. not (p x)) l) (filter (λ x. not (p x)) l))) ≡ length (concatMap f (x ∷ l))
       by true e = simp length-append (omega arith)
       by false e = simp length-append (omega arith)
 
@@ -68,7 +68,7 @@ module _ {A : Type 0} where
 
 -- the frames that a and b both select, in file order
 abbrev pub both : Selection → Selection → Trace → Trace
-both a b t = traceOf (t .lines) (sift (λ r. picks a r && picks b r) (t .frames))
+both a b t = traceOf (t .lines) (filter (λ r. picks a r && picks b r) (t .frames))
 
 and-comm : (p q : Bool) → p && q ≡ q && p
 and-comm true true = refl
@@ -77,10 +77,10 @@ and-comm false true = refl
 and-comm false false = refl
 
 pub cut-cut : (a b : Selection) (t : Trace) → cut b (cut a t) ≡ both a b t
-cut-cut a b t = rw (sift-sift (picks a) (picks b) (t .frames))
+cut-cut a b t = rw (filter-filter (picks a) (picks b) (t .frames))
 
 pub cut-comm : (a b : Selection) (t : Trace) → cut b (cut a t) ≡ cut a (cut b t)
-cut-comm a b t = cut-cut a b t ∙ ap (traceOf (t .lines)) (sift-same _ _ (λ r. and-comm (picks a r) (picks b r)) (t .frames)) ∙ sym (cut-cut b a t)
+cut-comm a b t = cut-cut a b t ∙ ap (traceOf (t .lines)) (filter-same _ _ (λ r. and-comm (picks a r) (picks b r)) (t .frames)) ∙ sym (cut-cut b a t)
 
 beq-not : (k b : Bool) → Bool·beq (not k) b ≡ not (Bool·beq k b)
 beq-not true true = refl
@@ -98,26 +98,26 @@ picks-other c r = beq-not (c .keep) (inSome (c .ranges) (r .tracepoint))
 
 -- a cut is no longer than its trace
 pub cut-shorter : (f : Format) (c : Selection) (t : Trace) → length (encode f (cut c t)) ≤ length (encode f t)
-cut-shorter f c t = omega (arith, length-encode f t, length-encode f (cut c t), flat-parts (putFrame f) (picks c) (t .frames))
+cut-shorter f c t = omega (arith, length-encode f t, length-encode f (cut c t), concatMap-parts (putFrame f) (picks c) (t .frames))
 
 -- what is kept and what is dropped: the file's length, and one opening more
 pub cut-lengths : (f : Format) (c : Selection) (t : Trace)
     → length (encode f (cut c t)) + length (encode f (cut (opposite c) t)) ≡ length (encode f t) + length (opening (t .lines))
 cut-lengths f c t =
-    rw (sift-same (picks (opposite c)) (λ r. not (picks c r)) (picks-other c) (t .frames))
+    rw (filter-same (picks (opposite c)) (λ r. not (picks c r)) (picks-other c) (t .frames))
     (omega (
       arith,
-      flat-parts (putFrame f) (picks c) (t .frames),
+      concatMap-parts (putFrame f) (picks c) (t .frames),
       length-encode f t,
       length-encode f (cut c t),
-      length-encode f (traceOf (t .lines) (sift (λ r. not (picks c r)) (t .frames))),
+      length-encode f (traceOf (t .lines) (filter (λ r. not (picks c r)) (t .frames))),
     ))
 
 pub layout-cut : (f : Format) (c : Selection) (t : Trace) → Layout f t → Layout f (cut c t)
 layout-cut f c t h =
     record {
       lines-fit = h .lines-fit;
-      frames-fit = sift-each (FrameFits f (registerSize f (t .lines))) (picks c) (t .frames) (h .frames-fit);
+      frames-fit = filter-each (FrameFits f (registerSize f (t .lines))) (picks c) (t .frames) (h .frames-fit);
       length-fits = omega (arith, h .length-fits, cut-shorter f c t);
     }
 

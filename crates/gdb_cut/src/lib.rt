@@ -6,7 +6,7 @@ ghost use lib.Dec.{leb};
 ghost use lib.ListN.{length, take, drop};
 ghost use Rattle.fields.specs.Output.{Lent};
 ghost use Rattle.gdb_cut.specs.Selection.{inSome, selects, meaning, valid, against};
-ghost use Rattle.gdb_cut.specs.Cut.{cutOf, editAnswer};
+ghost use Rattle.gdb_cut.specs.Cut.{cutOf, editMeaning};
 ghost use Rattle.gdb_cut.specs.Kept.{kept, Heads};
 use gdb_format::Format;
 use gdb_format::Settings;
@@ -160,7 +160,7 @@ fn write_cut(
 
 // The opening of `file`, then its frames that the selection selects.
 pub fn cut(settings: Settings, file: &[u8], selection: Selection, out: &mut [u8]) -> EditAnswer
-    ensures { λ r. ⌜ Lent (cutOf settings selection (now (file .entry))) (now (out .entry)) (editAnswer r) (now (out .exit)) ⌝ }
+    ensures { λ r. ⌜ Lent (cutOf settings selection (now (file .entry))) (now (out .entry)) (editMeaning r) (now (out .exit)) ⌝ }
 {
     if !is_valid(selection) {
         return EditAnswer::Refused(BAD_ARGUMENT);

@@ -35,20 +35,20 @@ end-of end (accepted r) g = refl
 end-of end (refused n) g = refl
 
 module _ (d : List ℕ) (at : ℕ) (h : at ≤ length d) where
-  abbrev Ends : {A : Type 0} → Answer (A × List ℕ) → Answer (Option (Unit {0} × ℕ)) → Type 0
-  Ends y x = x ≡ contentEnd (length d) y
+  abbrev ContentEnds : {A : Type 0} → Answer (A × List ℕ) → Answer (Option (Unit {0} × ℕ)) → Type 0
+  ContentEnds y x = x ≡ contentEnd (length d) y
 
-  pub bytes-past : (n : ℕ) → length d - at < n → Ends (bytes n blockPastData (drop at d)) (refused blockPastData)
+  pub bytes-past : (n : ℕ) → length d - at < n → ContentEnds (bytes n blockPastData (drop at d)) (refused blockPastData)
   bytes-past n l = rw (bytes-short d at n blockPastData l)
 
-  pub bytes-here : (n : ℕ) → n ≤ length d - at → Ends (bytes n blockPastData (drop at d)) (accepted (some (tt, at + n)))
+  pub bytes-here : (n : ℕ) → n ≤ length d - at → ContentEnds (bytes n blockPastData (drop at d)) (accepted (some (tt, at + n)))
   bytes-here n l = rw (bytes-at d at n blockPastData h l, place-of d (at + n) (omega arith))
 
-  pub registers-none : Ends (registerBlock none (drop at d)) (refused noRegisterSize)
+  pub registers-none : ContentEnds (registerBlock none (drop at d)) (refused noRegisterSize)
   unfolding registerBlock
   registers-none = refl
 
-  pub registers-some : (n : ℕ) (x : Answer (Option (Unit {0} × ℕ))) → Ends (bytes n blockPastData (drop at d)) x → Ends (registerBlock (some n) (drop at d)) x
+  pub registers-some : (n : ℕ) (x : Answer (Option (Unit {0} × ℕ))) → ContentEnds (bytes n blockPastData (drop at d)) x → ContentEnds (registerBlock (some n) (drop at d)) x
   unfolding registerBlock
   registers-some n x e = e ∙ end-of (length d) (bytes n blockPastData (drop at d)) trace.registers
 
@@ -68,11 +68,11 @@ module _ (d : List ℕ) (at : ℕ) (h : at ≤ length d) where
         let g' : n ≡ number (f .order) (take 2 (drop (at + 8) d)) = g ∙ word-in (f .order) 2 d (at + 8) (omega arith) in
         rw (num-at d at (f .order) 8 blockPastData h (omega arith), num-at d (at + 8) (f .order) 2 blockPastData (omega arith) (omega arith), i, e', g')
 
-    pub memory-none : length d - at < 10 → Ends (memoryBlock f (drop at d)) (refused blockPastData)
+    pub memory-none : length d - at < 10 → ContentEnds (memoryBlock f (drop at d)) (refused blockPastData)
     memory-none l = rw (memory-short l)
 
     pub memory-body : 10 ≤ length d - at → (n : ℕ) → n ≡ wordAt (f .order) 2 d (at + 8) → (x : Answer (Option (Unit {0} × ℕ)))
-        → Ends (bytes n blockPastData (drop (at + 10) d)) x → Ends (memoryBlock f (drop at d)) x
+        → ContentEnds (bytes n blockPastData (drop (at + 10) d)) x → ContentEnds (memoryBlock f (drop at d)) x
     memory-body l n g x e =
         e ∙ end-of (length d) (bytes n blockPastData (drop (at + 10) d)) (trace.memory (wordAt (f .order) 8 d at)) ∙ sym (ap (contentEnd (length d)) (memory-head l _ n refl g))
 
@@ -94,7 +94,7 @@ module _ (d : List ℕ) (at : ℕ) (h : at ≤ length d) where
           word-in (f .order) 8 d (at + 4) (omega arith),
         )
 
-    pub variable-bytes : (x : Answer (Option (Unit {0} × ℕ))) → Ends (bytes 12 blockPastData (drop at d)) x → Ends (variableBlock f (drop at d)) x
+    pub variable-bytes : (x : Answer (Option (Unit {0} × ℕ))) → ContentEnds (bytes 12 blockPastData (drop at d)) x → ContentEnds (variableBlock f (drop at d)) x
     variable-bytes x e =
         e ∙ by-cases (decLe 12 (length d - at)) (λ k. rw (bytes-at d at 12 blockPastData h k, variable-at k))
         (λ k. rw (bytes-short d at 12 blockPastData (lt-of-not-le k), variable-short (lt-of-not-le k)))

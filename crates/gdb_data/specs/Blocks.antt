@@ -49,10 +49,10 @@ kindMeaning (Variable n v) = variable n v
 abbrev pub blockIn : BlockRecord → ℕ × Carried
 blockIn r = (r .place, kindMeaning (r .kind))
 
-abbrev pub blockMeaning : BlockStep → Answer (Option ((ℕ × Carried) × ℕ))
-blockMeaning step.End = accepted none
-blockMeaning (step.Block r m) = accepted (some (blockIn r, m))
-blockMeaning (step.Refused n) = refused n
+abbrev pub blockStepMeaning : BlockStep → Answer (Option ((ℕ × Carried) × ℕ))
+blockStepMeaning step.End = accepted none
+blockStepMeaning (step.Block r m) = accepted (some (blockIn r, m))
+blockStepMeaning (step.Refused n) = refused n
 
 -- the kind of the block whose letter stands at `at`
 abbrev pub kindAt : Format → List ℕ → ℕ → Carried

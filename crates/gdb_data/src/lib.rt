@@ -6,7 +6,7 @@ ghost use Rattle.refusals.specs.Refusal.{blockPastData};
 ghost use Rattle.fields.specs.Reader.{bytes, stepAt};
 ghost use Rattle.gdb_format.specs.Opening.{sizeIn};
 ghost use Rattle.gdb_format.specs.Decode.{registerBlock, memoryBlock, block};
-ghost use Rattle.gdb_data.specs.Blocks.{kindMeaning, blockMeaning, blockSeen, endMeaning, blockPassed, contentEnd, kindAt, verdictMeaning, blocksFill};
+ghost use Rattle.gdb_data.specs.Blocks.{kindMeaning, blockStepMeaning, blockSeen, endMeaning, blockPassed, contentEnd, kindAt, verdictMeaning, blocksFill};
 use gdb_format::Format;
 use gdb_format::RegisterSize;
 use refusals::BAD_LETTER;
@@ -126,7 +126,7 @@ fn kind_at(format: Format, d: &[u8], at: usize) -> BlockKind
 
 // What stands at `at`, in data that ends where `d` does.
 pub fn block_at(format: Format, size: RegisterSize, d: &[u8], at: usize) -> BlockStep
-    ensures { λ r. ⌜ blockMeaning r ≡ stepAt blockSeen (block format (sizeIn size)) (now (d .entry)) at ⌝ }
+    ensures { λ r. ⌜ blockStepMeaning r ≡ stepAt blockSeen (block format (sizeIn size)) (now (d .entry)) at ⌝ }
 {
     match block_end(format, size, d, at) {
         BlockEnd::End => BlockStep::End,

@@ -2,7 +2,7 @@
 -- Assumes nothing.
 use mathlib.Core.Path.{_≡_, refl, sym, ap, subst}
 use mathlib.Core.Bool.{false}
-use mathlib.Core.Option.{Option, none, some}
+use mathlib.Core.Option.{Option, none, some, Option·some-injective}
 use Prim.Native.Nat.{ℕ}
 use native.Mathlib.Omega.{arith}
 use mathlib.Core.List.{List, [], _++_, append-nil}
@@ -53,9 +53,6 @@ valueIn (variable n v) = v
 abbrev IsBlock : ℕ → Option ℕ → Block → Type 0
 IsBlock letter size c = (letterOf c ≡ letter) × BlockFits size c
 
-some-inj : {A : Type 0} {a b : A} → some a ≡ some b → a ≡ b
-some-inj e = cc
-
 same-value : (n m : ℕ) (v u : ℤ) → variable n v ≡ variable m u → v ≡ u
 same-value n m v u e = cc
 
@@ -66,7 +63,7 @@ exact-registers f none =
     (elim [ registers b ↦ λ h. clash (cc) | memory a b ↦ λ h. omega arith | variable n v ↦ λ h. omega arith ])
 exact-registers f (some n) =
     exact-as (exact-then (exact-bytes n blockPastData) (λ b. exact-give (registers b)) bytesIn (λ b c h e. rw e))
-    (elim [ registers b ↦ λ h. ((some-inj (sym (h .1)), refl), append-nil b) | memory a b ↦ λ h. absurd (omega arith) | variable n v ↦ λ h. absurd (omega arith) ])
+    (elim [ registers b ↦ λ h. ((Option·some-injective _ _ (sym (h .1)), refl), append-nil b) | memory a b ↦ λ h. absurd (omega arith) | variable n v ↦ λ h. absurd (omega arith) ])
     (elim [ registers b ↦ λ h. ((refl, ap some (sym (h .0))), append-nil b) | memory a b ↦ λ h. clash (cc) | variable n v ↦ λ h. clash (cc) ])
 
 exact-memory : (f : Format) (size : Option ℕ) → Exact (memoryBlock f) (IsBlock 0x4D size) (content f)

@@ -7,7 +7,7 @@ use native.Mathlib.Omega.{arith}
 use mathlib.Core.List.{List, [], _++_, append-nil}
 use lib.ListN.{length}
 use Rattle.refusals.specs.Refusal.{shortHead, dataPastFile}
-use Rattle.fields.specs.Lists.{flat, Each}
+use Rattle.fields.specs.Lists.{concatMap, Each}
 use Rattle.fields.specs.Number.{Bytes, field, bytes-back}
 use Rattle.fields.specs.Answer.{accepted, next-inv, accepted-inj}
 use Rattle.fields.specs.Reader.{Reader, _>>=_, give}
@@ -60,7 +60,7 @@ data-bytes : (f : Format) (h : ℕ × List ℕ) → Bytes (putData f h) → Byte
 data-bytes f h b =
     bytes-back (field (f .order) 4 (length (h .1))) (h .1) (bytes-back (field (f .order) 2 (h .0)) (field (f .order) 4 (length (h .1)) ++ h .1) b)
 
-made-frame : (f : Format) (size : Option ℕ) (h : ℕ × List ℕ) (bs : List Block) (r : Frame) → Each (BlockFits size) bs × (flat (putBlock f) bs ≡ h .1)
+made-frame : (f : Format) (size : Option ℕ) (h : ℕ × List ℕ) (bs : List Block) (r : Frame) → Each (BlockFits size) bs × (concatMap (putBlock f) bs ≡ h .1)
     → record { tracepoint = h .0; blocks = bs } ≡ r → IsFrame f size h r
 made-frame f size h bs r g e = rw (← e) (refl, g .0, g .1)
 
@@ -93,11 +93,11 @@ shorter-frame f size = shorter 1 (frame f size) (omega arith) (takes-frame f siz
 
 -- ---- the frames of a file
 
-pub frames-back : (f : Format) (size : Option ℕ) (fs : List Frame) → Each (FrameFits f size) fs → frames f size (flat (putFrame f) fs) ≡ accepted fs
+pub frames-back : (f : Format) (size : Option ℕ) (fs : List Frame) → Each (FrameFits f size) fs → frames f size (concatMap (putFrame f) fs) ≡ accepted fs
 unfolding frames
 frames-back f size fs h = back-toEnd (exact-frame f size) (shorter-frame f size) fs h
 
 pub frames-forth : (f : Format) (size : Option ℕ) (b : List ℕ) (fs : List Frame) → Bytes b → frames f size b ≡ accepted fs
-    → Each (FrameFits f size) fs × (flat (putFrame f) fs ≡ b)
+    → Each (FrameFits f size) fs × (concatMap (putFrame f) fs ≡ b)
 unfolding frames
 frames-forth f size b fs h e = forth-toEnd (exact-frame f size) (shorter-frame f size) b fs h e

@@ -8,7 +8,7 @@ use lib.ListN.{length}
 use lib.Dec.{leb}
 use borrow.Author.Tests.{leb-true, le-leb}
 use Rattle.refusals.specs.Refusal.{limit, tooLong}
-use Rattle.fields.specs.Lists.{flat, Each}
+use Rattle.fields.specs.Lists.{concatMap, Each}
 use Rattle.fields.specs.Number.{Bytes, bytes-back}
 use Rattle.fields.specs.Answer.{Answer, accepted, next, accepted-inj, next-inv, cond-inv}
 use Rattle.gdb_format.specs.Settings.{settingsOf}
@@ -25,17 +25,17 @@ trace-back : (f : Format) (t : Trace) → Layout f t → trace f (encode f t) �
 unfolding encode trace
 trace-back f t h =
     rw (
-      (exact-opening f) .back (t .lines) (flat (putFrame f) (t .frames)) (h .lines-fit),
+      (exact-opening f) .back (t .lines) (concatMap (putFrame f) (t .frames)) (h .lines-fit),
       frames-back f (registerSize f (t .lines)) (t .frames) (h .frames-fit),
     )
 
 made-forth : (f : Format) (b rest : List ℕ) (ls : List (List ℕ)) (fs : List Frame) (t : Trace) → length b ≤ limit
-    → LinesFit f ls × (opening ls ++ rest ≡ b) → Each (FrameFits f (registerSize f ls)) fs × (flat (putFrame f) fs ≡ rest)
+    → LinesFit f ls × (opening ls ++ rest ≡ b) → Each (FrameFits f (registerSize f ls)) fs × (concatMap (putFrame f) fs ≡ rest)
     → _≡_ {A = Answer Trace} (accepted (traceOf ls fs)) (accepted t) → Layout f t × (encode f t ≡ b)
 unfolding encode
 made-forth f b rest ls fs t k l g e =
     let m : t ≡ traceOf ls fs = cc in
-    let w : opening ls ++ flat (putFrame f) fs ≡ b = rw (g .1) (l .1) in
+    let w : opening ls ++ concatMap (putFrame f) fs ≡ b = rw (g .1) (l .1) in
     rw m (record { lines-fit = l .0; frames-fit = g .0; length-fits = rw w k }, w)
 
 trace-forth : (f : Format) (b : List ℕ) (t : Trace) → Bytes b → length b ≤ limit → trace f b ≡ accepted t → Layout f t × (encode f t ≡ b)

@@ -2,7 +2,7 @@
 -- Assumes nothing.
 use mathlib.Core.Path.{_≡_, refl, sym, ap, _∙_}
 use mathlib.Core.Bool.{Bool, true, false, cond, not, _&&_, _||_}
-use mathlib.Core.Option.{Option, none, some}
+use mathlib.Core.Option.{Option, none, some, Option·some-injective}
 use mathlib.Core.Logic.{_↔_, _⊎_, inl, inr}
 use Prim.Native.Nat.{ℕ, _+_, _-_, _*_, _<_, _≤_}
 use native.Mathlib.Omega.{arith}
@@ -12,14 +12,11 @@ use lib.Dec.{leb, eqb}
 use borrow.Author.Tests.{leb-true, le-leb, eqb-true}
 use Rattle.fields.specs.Lists.{Each, Some, EachAfter, one, count, AtMostOne, first-of, first-then, clash}
 use Rattle.fields.specs.Word.{starts, and-inv}
-use Rattle.gdb_format.specs.Lines.{isRegister, isStatus, isDigit, decimal, limited, sizeOf, isSome, anyLine, mayFollow, registerSize}
+use Rattle.gdb_format.specs.Lines.{isRegister, isStatus, isDigit, numeral, limited, sizeOf, isSome, anyLine, mayFollow, registerSize}
 use Rattle.gdb_format.specs.Layout.{NoEnd, IsDigit, Spelled, made, Says, LineFits, LinesFit}
 use Rattle.gdb_format.specs.declared.Format.{Format}
 
 -- ---- what an R line says
-
-some-inj : {A : Type 0} {a b : A} → some a ≡ some b → a ≡ b
-some-inj e = cc
 
 cond-some : {A : Type 0} (t : Bool) (x : Option A) (a : A) → cond t x none ≡ some a → (t ≡ true) × (x ≡ some a)
 cond-some true x a e = (refl, e)
@@ -29,7 +26,7 @@ limited-some : (x : Option ℕ) (n : ℕ) → limited x ≡ some n → (x ≡ so
 limited-some none n e = clash (cc)
 limited-some (some v) n e =
     let q = cond-some (leb v 65535) (some v) n e in
-    let i : v ≡ n = some-inj (q .1) in
+    let i : v ≡ n = Option·some-injective _ _ (q .1) in
     (q .1, rw (← i) (leb-true v 65535 (q .0)))
 
 digit-is : (x : ℕ) → isDigit x ≡ true → IsDigit x (x - 0x30)
@@ -45,14 +42,14 @@ is-digit x v h = (rw (le-leb 0x30 x (omega (arith, h .1)), le-leb x 0x39 (omega 
 abbrev Spells : ℕ → ℕ → List ℕ → Type 0
 Spells v n d = (vs : List ℕ) × Spelled d vs × (made v vs ≡ n)
 
-spelled-of : (v n : ℕ) (d : List ℕ) → decimal v d ≡ some n → Spells v n d
-spelled-of v n [] e = ([], tt, some-inj e)
+spelled-of : (v n : ℕ) (d : List ℕ) → numeral v d ≡ some n → Spells v n d
+spelled-of v n [] e = ([], tt, Option·some-injective _ _ e)
 spelled-of v n (x ∷ d) e =
-    let q = cond-some (isDigit x) (decimal (v * 10 + (x - 0x30)) d) n e in
+    let q = cond-some (isDigit x) (numeral (v * 10 + (x - 0x30)) d) n e in
     let r = spelled-of (v * 10 + (x - 0x30)) n d (q .1) in
     ((x - 0x30) ∷ r .0, (digit-is x (q .0), r .1), r .2)
 
-of-spelled : (v : ℕ) (d vs : List ℕ) → Spelled d vs → decimal v d ≡ some (made v vs)
+of-spelled : (v : ℕ) (d vs : List ℕ) → Spelled d vs → numeral v d ≡ some (made v vs)
 of-spelled v [] [] h = refl
 of-spelled v [] (w ∷ vs) h = absurd h
 of-spelled v (x ∷ d) [] h = absurd h
@@ -66,9 +63,9 @@ size-says f l n = (forth, back)
   where
     forth : sizeOf f l ≡ some n → Says f l n
     forth e =
-        let q = cond-some (leb 1 (length (drop 2 l)) && leb (length (drop 2 l)) 5) (limited (decimal 0 (drop 2 l))) n e in
+        let q = cond-some (leb 1 (length (drop 2 l)) && leb (length (drop 2 l)) 5) (limited (numeral 0 (drop 2 l))) n e in
         let r = and-inv (leb 1 (length (drop 2 l))) (leb (length (drop 2 l)) 5) (q .0) in
-        let s = limited-some (decimal 0 (drop 2 l)) n (q .1) in
+        let s = limited-some (numeral 0 (drop 2 l)) n (q .1) in
         (leb-true 1 (length (drop 2 l)) (r .0), leb-true (length (drop 2 l)) 5 (r .1), spelled-of 0 n (drop 2 l) (s .0), s .1)
 
     back : Says f l n → sizeOf f l ≡ some n

@@ -45,9 +45,9 @@ abbrev pub isDigit : ℕ → Bool
 isDigit d = leb 0x30 d && leb d 0x39
 
 -- the number that decimal digits spell, after those that gave v
-abbrev pub decimal : ℕ → List ℕ → Option ℕ
-decimal v [] = some v
-decimal v (d ∷ ds) = let more = decimal (v * 10 + (d - 0x30)) ds in cond (isDigit d) more none
+abbrev pub numeral : ℕ → List ℕ → Option ℕ
+numeral v [] = some v
+numeral v (d ∷ ds) = let more = numeral (v * 10 + (d - 0x30)) ds in cond (isDigit d) more none
 
 -- the value where it is at most 65,535
 abbrev pub limited : Option ℕ → Option ℕ
@@ -56,7 +56,7 @@ limited (some v) = cond (leb v 65535) (some v) none
 
 -- what stands after `R `: one to five decimal digits and nothing else, value 0 to 65,535
 abbrev pub sizeOf : Format → List ℕ → Option ℕ
-sizeOf f l = let d = drop 2 l in cond (leb 1 (length d) && leb (length d) 5) (limited (decimal 0 d)) none
+sizeOf f l = let d = drop 2 l in cond (leb 1 (length d) && leb (length d) 5) (limited (numeral 0 d)) none
 
 -- ---- at most one `R ` line and one `status ` line
 

@@ -4,7 +4,7 @@ use Prim.Native.Nat.{ℕ}
 use mathlib.Core.List.{List, [], _∷_, _++_}
 use lib.ListN.{length}
 use lib.IntN.{ℤ}
-use Rattle.fields.specs.Lists.{flat}
+use Rattle.fields.specs.Lists.{concatMap}
 use Rattle.fields.specs.Number.{field}
 use Rattle.fields.specs.Signed.{unsigned64}
 use Rattle.gdb_format.specs.declared.Format.{Format}
@@ -41,7 +41,7 @@ putLine l = l ++ 0x0A ∷ []
 
 -- the *opening*: head and description, with the empty line's 0A
 unfoldable pub opening : List (List ℕ) → List ℕ
-opening ls = head ++ (flat putLine ls ++ 0x0A ∷ [])
+opening ls = head ++ (concatMap putLine ls ++ 0x0A ∷ [])
 
 -- `R`: the bytes. `M`: 8-byte address, 2-byte length, the bytes. `V`: 4-byte number, 8-byte signed value.
 abbrev pub putBlock : Format → Block → List ℕ
@@ -51,7 +51,7 @@ putBlock f (variable n v) = 0x56 ∷ field (f .order) 4 n ++ field (f .order) 8 
 
 -- blocks fill the data exactly
 abbrev pub dataOf : Format → Frame → List ℕ
-dataOf f r = flat (putBlock f) (r .blocks)
+dataOf f r = concatMap (putBlock f) (r .blocks)
 
 -- a frame's head, a 2-byte tracepoint number and a 4-byte size, and then its data
 abbrev pub putData : Format → ℕ × List ℕ → List ℕ
@@ -61,4 +61,4 @@ abbrev pub putFrame : Format → Frame → List ℕ
 putFrame f r = putData f (r .tracepoint, dataOf f r)
 
 unfoldable pub encode : Format → Trace → List ℕ
-encode f t = opening (t .lines) ++ flat (putFrame f) (t .frames)
+encode f t = opening (t .lines) ++ concatMap (putFrame f) (t .frames)

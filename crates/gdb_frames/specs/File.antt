@@ -6,7 +6,7 @@ use native.Mathlib.Omega.{arith}
 use mathlib.Core.List.{List, [], _∷_, _++_, append-assoc}
 use lib.ListN.{length, take, drop, length-append}
 use lib.Seq.{take-at, drop-at}
-use Rattle.fields.specs.Lists.{flat}
+use Rattle.fields.specs.Lists.{concatMap}
 use Rattle.fields.specs.Number.{Bytes}
 use Rattle.fields.specs.Answer.{Answer, accepted, refused, next-inv, refused-inv, accepted-one, accepted-inj}
 use Rattle.gdb_format.specs.Trace.{Trace, opening, putLine, putFrame, encode}
@@ -27,14 +27,14 @@ pub record File (f : Format) (b : List ℕ) (t : Trace) : Type 0 where
   pub laid-out : encode f t ≡ b
 
 -- the frames stand behind the opening
-pub frames-behind : (f : Format) (b : List ℕ) (t : Trace) → File f b t → drop (length (opening (t .lines))) b ≡ flat (putFrame f) (t .frames)
+pub frames-behind : (f : Format) (b : List ℕ) (t : Trace) → File f b t → drop (length (opening (t .lines))) b ≡ concatMap (putFrame f) (t .frames)
 unfolding encode
 frames-behind f b t i =
-    ap (drop (length (opening (t .lines)))) (sym (i .laid-out)) ∙ drop-at (opening (t .lines)) (flat (putFrame f) (t .frames)) (length (opening (t .lines))) refl
+    ap (drop (length (opening (t .lines)))) (sym (i .laid-out)) ∙ drop-at (opening (t .lines)) (concatMap (putFrame f) (t .frames)) (length (opening (t .lines))) refl
 
 pub start-within : (f : Format) (b : List ℕ) (t : Trace) → File f b t → length (opening (t .lines)) ≤ length b
 unfolding encode
-start-within f b t i = omega (arith, ap length (i .laid-out), length-append (opening (t .lines)) (flat (putFrame f) (t .frames)))
+start-within f b t i = omega (arith, ap length (i .laid-out), length-append (opening (t .lines)) (concatMap (putFrame f) (t .frames)))
 
 pub file-of : (s : Settings) (b : List ℕ) (f : Format) (t : Trace) → Bytes b → read s b ≡ accepted (f, t) → File f b t
 file-of s b f t h e = let l = (read-exactness s b f t h) .0 e in record { fits = l .1; laid-out = l .2 }
@@ -44,11 +44,11 @@ pub opening-front : (f : Format) (b : List ℕ) (t : Trace) → File f b t → t
 unfolding encode
 opening-front f b t i =
     let o = opening (t .lines) in
-    ap (take (length o)) (sym (i .laid-out)) ∙ take-at o (flat (putFrame f) (t .frames)) (length o) refl
+    ap (take (length o)) (sym (i .laid-out)) ∙ take-at o (concatMap (putFrame f) (t .frames)) (length o) refl
 
-pub length-encode : (f : Format) (t : Trace) → length (encode f t) ≡ length (opening (t .lines)) + length (flat (putFrame f) (t .frames))
+pub length-encode : (f : Format) (t : Trace) → length (encode f t) ≡ length (opening (t .lines)) + length (concatMap (putFrame f) (t .frames))
 unfolding encode
-length-encode f t = length-append (opening (t .lines)) (flat (putFrame f) (t .frames))
+length-encode f t = length-append (opening (t .lines)) (concatMap (putFrame f) (t .frames))
 
 -- a file is read as the trace that it holds
 pub decode-file : (f : Format) (b : List ℕ) (t : Trace) → File f b t → decode f b ≡ accepted t
@@ -67,10 +67,10 @@ same-lines f ls ms h k e =
 pub summary-inv : (m : Summary) (x : Answer (Format × Trace)) → accepted m ≡ readSeen x → (r : Format × Trace) × (x ≡ accepted r) × (summaryOf (r .0) (r .1) ≡ m)
 summary-inv m x e = let q = next-inv x (λ r. accepted (summaryOf (r .0) (r .1))) (sym e) in (q .0, q .1, accepted-one (q .2))
 
-pub lines-behind : (f : Format) (b : List ℕ) (t : Trace) → File f b t → drop 8 b ≡ flat putLine (t .lines) ++ 0x0A ∷ flat (putFrame f) (t .frames)
+pub lines-behind : (f : Format) (b : List ℕ) (t : Trace) → File f b t → drop 8 b ≡ concatMap putLine (t .lines) ++ 0x0A ∷ concatMap (putFrame f) (t .frames)
 unfolding opening encode
 lines-behind f b t i =
-    ap (drop 8) (sym (i .laid-out)) ∙ append-assoc (flat putLine (t .lines)) (0x0A ∷ []) (flat (putFrame f) (t .frames))
+    ap (drop 8) (sym (i .laid-out)) ∙ append-assoc (concatMap putLine (t .lines)) (0x0A ∷ []) (concatMap (putFrame f) (t .frames))
 
 -- ---- what the reading's answer is for every question
 

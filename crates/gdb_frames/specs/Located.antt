@@ -8,9 +8,10 @@ use mathlib.Core.List.{List, [], _∷_, _++_}
 use lib.ListN.{length, length-append}
 use borrow.Author.Tests.{le-leb}
 use Rattle.refusals.specs.Refusal.{notFound}
-use Rattle.fields.specs.Lists.{flat, Each, clash}
+use Rattle.fields.specs.Lists.{concatMap, Each, clash}
 use Rattle.fields.specs.Number.{Bytes, field, length-field}
 use Rattle.fields.specs.Answer.{Answer, accepted, refused, next, never, next-inv, refused-inv, accepted-one, accepted-inj, next-assoc}
+use Rattle.fields.specs.Element.{nth, nth-refused}
 use Rattle.gdb_format.specs.Trace.{Frame, Trace, opening, putFrame, dataOf}
 use Rattle.gdb_format.specs.Lines.{registerSize, kindOf}
 use Rattle.gdb_format.specs.Layout.{LineFits, FrameFits}
@@ -20,7 +21,7 @@ use Rattle.gdb_format.specs.ExactFrame.{exact-head}
 use Rattle.gdb_format.specs.declared.Settings.{Settings}
 use Rattle.gdb_format.specs.declared.Format.{Format}
 use Rattle.gdb_read.specs.Steps.{Row, headSeen, frameSeen, headMeaning, Summary, readSeen}
-use Rattle.gdb_frames.specs.Places.{linesAt, framesAt, nth, partNamed}
+use Rattle.gdb_frames.specs.Places.{linesAt, framesAt, partNamed}
 use Rattle.gdb_frames.specs.Questions.{asked, frameRow, dataIn, frameData, lineAt, linePlace}
 use Rattle.gdb_frames.specs.Nth.{nthHead, shownNth, nth-placed, nthLine, IsLine, nth-line}
 use Rattle.gdb_frames.specs.declared.LocatedAnswer.{LocatedAnswer}
@@ -36,9 +37,9 @@ abbrev pub frameLocated : ℕ → Format → Trace → Answer (Format × (Option
 frameLocated n f t = next (frameRow n f t) (λ v. accepted (rowIn f t v))
 
 -- what `LocatedAnswer` says
-abbrev pub locatedAnswer : LocatedAnswer → Answer (Format × (Option ℕ × Row))
-locatedAnswer (located.Frame l) = accepted (l .format, (sizeIn (l .size), headMeaning (l .head)))
-locatedAnswer (located.Refused n) = refused n
+abbrev pub locatedMeaning : LocatedAnswer → Answer (Format × (Option ℕ × Row))
+locatedMeaning (located.Frame l) = accepted (l .format, (sizeIn (l .size), headMeaning (l .head)))
+locatedMeaning (located.Refused n) = refused n
 
 -- ---- frame n
 
@@ -55,11 +56,6 @@ head-nth f b t n i =
     nth-placed headSeen (frameHead f) (headIn f) (FrameFits f (registerSize f (t .lines))) (putFrame f)
     (λ r rest g. (exact-head f) .back (headIn f r) rest (g .0, g .1)) (frame-fill f) b
     n (t .frames) (length (opening (t .lines))) (i .fits .frames-fit) (start-within f b t i) (frames-behind f b t i)
-
-pub nth-refused : {A : Type 0} (xs : List A) (n k : ℕ) → nth xs n ≡ refused k → k ≡ notFound
-nth-refused [] n k e = cc
-nth-refused (x ∷ xs) zero k e = never (sym e)
-nth-refused (x ∷ xs) (suc n) k e = nth-refused xs n k e
 
 module _ {A C : Type 0} (view : ℕ → A → C) (put : A → List ℕ) where
   pub shown-none : (xs : List (ℕ × A)) (n : ℕ) → accepted none ≡ shownNth view put (nth xs n) → nth xs n ≡ refused notFound
@@ -124,7 +120,7 @@ lines-each f (l ∷ ls) h = ((h .0 .0, h .0 .1), lines-each f ls (h .1))
 
 pub line-nth : (f : Format) (b : List ℕ) (t : Trace) (j : ℕ) → File f b t
     → nthLine b j 8 ≡ next (nth (linesAt t) j) (λ r. accepted (r .0, length (r .1)))
-line-nth f b t j i = nth-line b (flat (putFrame f) (t .frames)) j (t .lines) 8 (lines-each f (t .lines) (i .fits .lines-fit .0)) (lines-behind f b t i)
+line-nth f b t j i = nth-line b (concatMap (putFrame f) (t .frames)) j (t .lines) 8 (lines-each f (t .lines) (i .fits .lines-fit .0)) (lines-behind f b t i)
 
 module _ (s : Settings) (b : List ℕ) (h : Bytes b) (m : Summary) (e : accepted m ≡ readSeen (read s b)) (j : ℕ) where
   pub line-missing : (k : ℕ) → refused k ≡ nthLine b j 8 → refused k ≡ asked s b (lineAt j)

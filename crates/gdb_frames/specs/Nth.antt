@@ -11,17 +11,18 @@ use lib.Seq.{drop-drop, drop-at}
 use lib.Dec.{ltb, eqb}
 use borrow.Author.Tests.{ne-eqb, lt-ltb, le-ltb}
 use Rattle.refusals.specs.Refusal.{notFound}
-use Rattle.fields.specs.Lists.{flat, Each}
+use Rattle.fields.specs.Lists.{concatMap, Each}
 use Rattle.fields.specs.Answer.{Answer, accepted, refused, next}
 use Rattle.fields.specs.Reader.{Reader, stepAt}
 use Rattle.fields.specs.At.{step-none, step-read}
+use Rattle.fields.specs.Element.{nth}
 use Rattle.gdb_format.specs.Trace.{putLine}
 use Rattle.gdb_format.specs.Layout.{NoEnd}
 use Rattle.gdb_format.specs.Decode.{frameHead}
 use Rattle.gdb_format.specs.Opening.{lineOf}
 use Rattle.gdb_format.specs.declared.Format.{Format}
 use Rattle.gdb_read.specs.Steps.{Row, headSeen}
-use Rattle.gdb_frames.specs.Places.{placed, nth}
+use Rattle.gdb_frames.specs.Places.{placed}
 
 -- ---- elements that a reader reads
 
@@ -76,14 +77,14 @@ module _ {A B C : Type 0} (view : ℕ → B → C) (p : Reader B) (h : A → B) 
       step-read view p s at (h x) (at + length (put x)) (omega (arith, fill x)) k
       (rw e (reads x b g) ∙ ap (λ r. accepted (h x, r)) (sym (rest-at at (put x) b e)))
 
-  pub nth-placed : (n : ℕ) (xs : List A) (at : ℕ) → Each F xs → at ≤ length s → drop at s ≡ flat put xs
+  pub nth-placed : (n : ℕ) (xs : List A) (at : ℕ) → Each F xs → at ≤ length s → drop at s ≡ concatMap put xs
       → nthAt view p s n at ≡ shownNth (λ a x. view a (h x)) put (nth (placed put at xs) n)
   nth-placed zero [] at g l e = step-end at e
   nth-placed (suc n) [] at g l e = rw (step-end at e)
-  nth-placed zero (x ∷ xs) at g l e = step-there at x (flat put xs) (g .0) l e
+  nth-placed zero (x ∷ xs) at g l e = step-there at x (concatMap put xs) (g .0) l e
   nth-placed (suc n) (x ∷ xs) at g l e =
-      rw (step-there at x (flat put xs) (g .0) l e)
-      (nth-placed n xs (at + length (put x)) (g .1) (within at (put x) (flat put xs) l e) (rest-at at (put x) (flat put xs) e))
+      rw (step-there at x (concatMap put xs) (g .0) l e)
+      (nth-placed n xs (at + length (put x)) (g .1) (within at (put x) (concatMap put xs) l e) (rest-at at (put x) (concatMap put xs) e))
 
 -- ---- lines
 
@@ -134,28 +135,28 @@ abbrev pub IsLine : List ℕ → Type 0
 IsLine l = (0 < length l) × NoEnd l
 
 module _ (s rest : List ℕ) where
-  line-there : (at : ℕ) (l : List ℕ) (ls : List (List ℕ)) → NoEnd l → drop at s ≡ flat putLine (l ∷ ls) ++ 0x0A ∷ rest → lineOf (drop at s) ≡ l
+  line-there : (at : ℕ) (l : List ℕ) (ls : List (List ℕ)) → NoEnd l → drop at s ≡ concatMap putLine (l ∷ ls) ++ 0x0A ∷ rest → lineOf (drop at s) ≡ l
   line-there at l ls h e =
-      ap lineOf (e ∙ append-assoc (putLine l) (flat putLine ls) (0x0A ∷ rest) ∙ append-assoc l (0x0A ∷ []) (flat putLine ls ++ 0x0A ∷ rest))
-      ∙ line-front l (flat putLine ls ++ 0x0A ∷ rest) h
+      ap lineOf (e ∙ append-assoc (putLine l) (concatMap putLine ls) (0x0A ∷ rest) ∙ append-assoc l (0x0A ∷ []) (concatMap putLine ls ++ 0x0A ∷ rest))
+      ∙ line-front l (concatMap putLine ls ++ 0x0A ∷ rest) h
 
-  lines-after : (at : ℕ) (l : List ℕ) (ls : List (List ℕ)) → drop at s ≡ flat putLine (l ∷ ls) ++ 0x0A ∷ rest → drop (at + length (putLine l)) s ≡ flat putLine ls ++ 0x0A ∷ rest
+  lines-after : (at : ℕ) (l : List ℕ) (ls : List (List ℕ)) → drop at s ≡ concatMap putLine (l ∷ ls) ++ 0x0A ∷ rest → drop (at + length (putLine l)) s ≡ concatMap putLine ls ++ 0x0A ∷ rest
   lines-after at l ls e =
-      sym (drop-drop (length (putLine l)) at s) ∙ ap (drop (length (putLine l))) (e ∙ append-assoc (putLine l) (flat putLine ls) (0x0A ∷ rest))
-      ∙ drop-at (putLine l) (flat putLine ls ++ 0x0A ∷ rest) (length (putLine l)) refl
+      sym (drop-drop (length (putLine l)) at s) ∙ ap (drop (length (putLine l))) (e ∙ append-assoc (putLine l) (concatMap putLine ls) (0x0A ∷ rest))
+      ∙ drop-at (putLine l) (concatMap putLine ls ++ 0x0A ∷ rest) (length (putLine l)) refl
 
-  line-within : (at : ℕ) (l : List ℕ) (ls : List (List ℕ)) → drop at s ≡ flat putLine (l ∷ ls) ++ 0x0A ∷ rest → at + length l < length s
+  line-within : (at : ℕ) (l : List ℕ) (ls : List (List ℕ)) → drop at s ≡ concatMap putLine (l ∷ ls) ++ 0x0A ∷ rest → at + length l < length s
   line-within at l ls e =
       omega (
         arith,
         length-drop at s,
-        ap length (e ∙ append-assoc (putLine l) (flat putLine ls) (0x0A ∷ rest)),
-        length-append (putLine l) (flat putLine ls ++ 0x0A ∷ rest),
-        length-append (flat putLine ls) (0x0A ∷ rest),
+        ap length (e ∙ append-assoc (putLine l) (concatMap putLine ls) (0x0A ∷ rest)),
+        length-append (putLine l) (concatMap putLine ls ++ 0x0A ∷ rest),
+        length-append (concatMap putLine ls) (0x0A ∷ rest),
         length-append l (0x0A ∷ []),
       )
 
-  pub nth-line : (j : ℕ) (ls : List (List ℕ)) (at : ℕ) → Each IsLine ls → drop at s ≡ flat putLine ls ++ 0x0A ∷ rest
+  pub nth-line : (j : ℕ) (ls : List (List ℕ)) (at : ℕ) → Each IsLine ls → drop at s ≡ concatMap putLine ls ++ 0x0A ∷ rest
       → nthLine s j at ≡ next (nth (placed putLine at ls) j) (λ r. accepted (r .0, length (r .1)))
   unfolding nthLine
   nth-line zero [] at g e = rw e

@@ -7,22 +7,20 @@ use Rattle.refusals.specs.Refusal.{notFound}
 use Rattle.fields.specs.Lists.{Each}
 use Rattle.fields.specs.Answer.{Answer}
 use Rattle.fields.specs.Refuses.{Refuses, OneOf, refuses-never, refuses-next, refuses-in}
+use Rattle.fields.specs.Element.{nth-numbers}
 use Rattle.gdb_format.specs.Trace.{Trace}
 use Rattle.gdb_format.specs.Numbers.{fileNumbers, file-numbers}
 use Rattle.gdb_format.specs.declared.Settings.{Settings}
 use Rattle.gdb_format.specs.declared.Format.{Format}
-use Rattle.gdb_frames.specs.Places.{linesAt, framesAt, nth}
+use Rattle.gdb_frames.specs.Places.{linesAt, framesAt}
 use Rattle.gdb_frames.specs.Questions.{asked, frameCount, frameRow, frameData, lineAt}
-use Rattle.gdb_frames.specs.Located.{frameLocated, nth-refused}
+use Rattle.gdb_frames.specs.Located.{frameLocated}
 
 -- 1 to 10, and 12
 abbrev pub questionNumbers : List ℕ
 questionNumbers = fileNumbers ++ notFound ∷ []
 
 module _ {P : ℕ → Type 0} where
-  pub nth-numbers : {A : Type 0} (xs : List A) (n : ℕ) → P notFound → Refuses P (nth xs n)
-  nth-numbers xs n h = record { only = λ k e. subst P (sym (nth-refused xs n k e)) h }
-
   pub asked-numbers : {B : Type 0} {q : Format → Trace → Answer B} (s : Settings) (b : List ℕ)
       → Each P fileNumbers → ((f : Format) (t : Trace) → Refuses P (q f t)) → Refuses P (asked s b q)
   asked-numbers s b h g = refuses-next (refuses-in fileNumbers h (file-numbers s b)) (λ r. g (r .0) (r .1))

@@ -7,30 +7,31 @@ use mathlib.Core.List.{List, [], _∷_, _++_, append-assoc, append-nil}
 use lib.ListN.{length, take, drop, length-append, length-drop}
 use lib.Seq.{take-at}
 use borrow.Author.Tests.{le-leb}
-use Rattle.fields.specs.Lists.{flat, Each, regroup, length-part, part-front, part-behind, part-there, part-lengths}
+use Rattle.fields.specs.Lists.{concatMap, Each, regroup, length-part, part-front, part-behind, part-there, part-lengths}
 use Rattle.fields.specs.Number.{Bytes, field, length-field}
 use Rattle.fields.specs.Answer.{Answer, accepted, refused, next, never, next-inv, next-assoc, accepted-one, accepted-inj}
+use Rattle.fields.specs.Element.{nth}
 use Rattle.gdb_format.specs.Trace.{Frame, Trace, putLine, putFrame, dataOf, opening}
 use Rattle.gdb_format.specs.Decode.{read}
 use Rattle.gdb_format.specs.declared.Settings.{Settings}
 use Rattle.gdb_format.specs.declared.Format.{Format}
 use Rattle.gdb_format.specs.declared.LineKind.{LineKind}
 use Rattle.gdb_read.specs.Steps.{Row}
-use Rattle.gdb_frames.specs.Places.{placed, nth, framesAt, linesAt, part, partNamed}
+use Rattle.gdb_frames.specs.Places.{placed, framesAt, linesAt, part, partNamed}
 use Rattle.gdb_frames.specs.Questions.{asked, frameRow, dataIn, frameData, lineAt, linePlace, Handed}
 use Rattle.gdb_frames.specs.File.{File, file-of, frames-behind, lines-behind}
 
 -- ---- an element among those laid out
 
 -- the bytes from its place on begin with its own
-pub placed-there : {A : Type 0} (put : A → List ℕ) (s : List ℕ) (n : ℕ) (xs : List A) (rest : List ℕ) (at a : ℕ) (x : A) → drop at s ≡ flat put xs ++ rest
+pub placed-there : {A : Type 0} (put : A → List ℕ) (s : List ℕ) (n : ℕ) (xs : List A) (rest : List ℕ) (at a : ℕ) (x : A) → drop at s ≡ concatMap put xs ++ rest
     → nth (placed put at xs) n ≡ accepted (a, x) → (r : List ℕ) × (drop a s ≡ put x ++ r) × (at ≤ a)
 placed-there put s n [] rest at a x e g = never g
 placed-there put s zero (y ∷ xs) rest at a x e g =
     let i = accepted-inj g in
-    (flat put xs ++ rest, rw (← i .0, ← i .1) (e ∙ append-assoc (put y) (flat put xs) rest), omega (arith, i .0))
+    (concatMap put xs ++ rest, rw (← i .0, ← i .1) (e ∙ append-assoc (put y) (concatMap put xs) rest), omega (arith, i .0))
 placed-there put s (suc n) (y ∷ xs) rest at a x e g =
-    let f = part-behind s at (put y) (flat put xs) rest (sym (e ∙ append-assoc (put y) (flat put xs) rest)) in
+    let f = part-behind s at (put y) (concatMap put xs) rest (sym (e ∙ append-assoc (put y) (concatMap put xs) rest)) in
     let q = placed-there put s n xs rest (at + length (put y)) a x f g in
     (q .0, q .1, omega (arith, q .2))
 
@@ -46,12 +47,6 @@ placed-is put xs at n a x e = sym (placed-nth put xs at n) ∙ ap (λ y. next y 
 pub placed-then : {A B : Type 0} (put : A → List ℕ) (xs : List A) (at n : ℕ) (q : A → Answer B)
     → next (nth (placed put at xs) n) (λ r. q (r .1)) ≡ next (nth xs n) q
 placed-then put xs at n q = sym (next-assoc (nth (placed put at xs) n) (λ r. accepted (r .1)) q) ∙ ap (λ x. next x q) (placed-nth put xs at n)
-
--- what holds of each element holds of element n
-pub each-nth : {A : Type 0} (F : A → Type 0) (xs : List A) (n : ℕ) (x : A) → Each F xs → nth xs n ≡ accepted x → F x
-each-nth F [] n x h e = never e
-each-nth F (y ∷ xs) zero x h e = subst F (accepted-one e) (h .0)
-each-nth F (y ∷ xs) (suc n) x h e = each-nth F xs n x (h .1) e
 
 -- ---- parts that lie in the file
 
@@ -72,7 +67,7 @@ handed b r (accepted q) i e =
 module _ (f : Format) (b : List ℕ) (t : Trace) (i : File f b t) (n a : ℕ) (r : Frame) (g : nth (framesAt f t) n ≡ accepted (a, r)) where
   frame-there : (rest : List ℕ) × ((field (f .order) 2 (r .tracepoint) ++ field (f .order) 4 (length (dataOf f r))) ++ (dataOf f r ++ rest) ≡ drop a b)
   frame-there =
-      let e = frames-behind f b t i ∙ sym (append-nil (flat (putFrame f) (t .frames))) in
+      let e = frames-behind f b t i ∙ sym (append-nil (concatMap (putFrame f) (t .frames))) in
       let q = placed-there (putFrame f) b n (t .frames) [] (length (opening (t .lines))) a r e g in
       (q .0, regroup (field (f .order) 2 (r .tracepoint)) (field (f .order) 4 (length (dataOf f r))) (dataOf f r) (q .0) ∙ sym (q .1))
 
@@ -121,7 +116,7 @@ frame-in-file s b n h =
 module _ (f : Format) (b : List ℕ) (t : Trace) (i : File f b t) (j a : ℕ) (l : List ℕ) (g : nth (linesAt t) j ≡ accepted (a, l)) where
   line-there : (rest : List ℕ) × (drop a b ≡ l ++ 0x0A ∷ rest)
   line-there =
-      let q = placed-there putLine b j (t .lines) (0x0A ∷ flat (putFrame f) (t .frames)) 8 a l (lines-behind f b t i) g in
+      let q = placed-there putLine b j (t .lines) (0x0A ∷ concatMap (putFrame f) (t .frames)) 8 a l (lines-behind f b t i) g in
       (q .0, q .1 ∙ append-assoc l (0x0A ∷ []) (q .0))
 
   pub line-within : a + length l ≤ length b

@@ -2,9 +2,9 @@
 ghost use mathlib.Core.Path.{_≡_};
 ghost use Rattle.fields.specs.Answer.{accepted};
 ghost use Rattle.gdb_frames.specs.Places.{partNamed};
-ghost use Rattle.gdb_frames.specs.Questions.{asked, frameCount, frameData, lineAt, linePlace, countAnswer, placeAnswer, lineAnswer, Handed};
+ghost use Rattle.gdb_frames.specs.Questions.{asked, frameCount, frameData, lineAt, linePlace, countMeaning, placeMeaning, lineMeaning, Handed};
 ghost use Rattle.gdb_frames.specs.Nth.{nthHead, nthLine};
-ghost use Rattle.gdb_frames.specs.Located.{locatedAnswer, frameLocated};
+ghost use Rattle.gdb_frames.specs.Located.{locatedMeaning, frameLocated};
 ghost use Rattle.gdb_read.specs.Steps.{frameMeaning};
 use gdb_format::Format;
 use gdb_format::LineKind;
@@ -22,7 +22,7 @@ pub enum CountAnswer {
 
 // The number of frames.
 pub fn frame_count(settings: Settings, file: &[u8]) -> CountAnswer
-    ensures { λ r. ⌜ countAnswer r ≡ asked settings (now (file .entry)) frameCount ⌝ }
+    ensures { λ r. ⌜ countMeaning r ≡ asked settings (now (file .entry)) frameCount ⌝ }
 {
     match gdb_read::read(settings, file) {
         Reading::Refused(n) => CountAnswer::Refused(n),
@@ -73,7 +73,7 @@ pub enum LocatedAnswer {
 
 // Frame n, found after the whole file was read.
 pub fn locate(settings: Settings, file: &[u8], n: usize) -> LocatedAnswer
-    ensures { λ r. ⌜ locatedAnswer r ≡ asked settings (now (file .entry)) (frameLocated n) ⌝ }
+    ensures { λ r. ⌜ locatedMeaning r ≡ asked settings (now (file .entry)) (frameLocated n) ⌝ }
 {
     match gdb_read::read(settings, file) {
         Reading::Refused(k) => LocatedAnswer::Refused(k),
@@ -95,7 +95,7 @@ pub fn locate(settings: Settings, file: &[u8], n: usize) -> LocatedAnswer
 
 // The data of frame n.
 pub fn frame_place(settings: Settings, file: &[u8], n: usize) -> PlaceAnswer
-    ensures { λ r. ⌜ placeAnswer r ≡ asked settings (now (file .entry)) (frameData n) ⌝ }
+    ensures { λ r. ⌜ placeMeaning r ≡ asked settings (now (file .entry)) (frameData n) ⌝ }
 {
     match locate(settings, file, n) {
         LocatedAnswer::Refused(k) => PlaceAnswer::Refused(k),
@@ -125,7 +125,7 @@ fn part_at(file: &[u8], place: usize, length: usize) -> &[u8]
 
 // The part of the file that an answer names; empty where it refuses, and where it names none of the file.
 pub fn part_of(file: &[u8], answer: PlaceAnswer) -> &[u8]
-    ensures { λ r. ⌜ now r ≡ partNamed (now (file .entry)) (placeAnswer answer) ⌝ }
+    ensures { λ r. ⌜ now r ≡ partNamed (now (file .entry)) (placeMeaning answer) ⌝ }
 {
     match answer {
         PlaceAnswer::Refused(_) => &file[..0],
@@ -141,7 +141,7 @@ pub fn frame_data(settings: Settings, file: &[u8], n: usize) -> &[u8]
 
 // The line that j further lines lead to from `from`: place and length, or none where the description ends first.
 fn nth_line(s: &[u8], from: usize, j: usize) -> PlaceAnswer
-    ensures { λ r. ⌜ placeAnswer r ≡ nthLine (now (s .entry)) j from ⌝ }
+    ensures { λ r. ⌜ placeMeaning r ≡ nthLine (now (s .entry)) j from ⌝ }
 {
     let mut at = from;
     let mut left = j;
@@ -176,7 +176,7 @@ pub enum LineAnswer {
 
 // Line j of the description, the closing empty one not counted.
 pub fn line_place(settings: Settings, file: &[u8], j: usize) -> LineAnswer
-    ensures { λ r. ⌜ lineAnswer r ≡ asked settings (now (file .entry)) (lineAt j) ⌝ }
+    ensures { λ r. ⌜ lineMeaning r ≡ asked settings (now (file .entry)) (lineAt j) ⌝ }
 {
     match gdb_read::read(settings, file) {
         Reading::Refused(k) => LineAnswer::Refused(k),

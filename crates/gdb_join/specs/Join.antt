@@ -24,12 +24,12 @@ bare t = withFrames t []
 
 -- ---- the bytes of a join, where the output has room
 
-abbrev pub within : List ℕ → Answer (List ℕ)
-within b = cond (leb (length b) limit) (accepted b) (refused tooLong)
+abbrev pub withinLimit : List ℕ → Answer (List ℕ)
+withinLimit b = cond (leb (length b) limit) (accepted b) (refused tooLong)
 
 -- the first file's faults, the second's, 13 for openings that differ, 1 for the result
 unfoldable pub joinOf : Settings → List ℕ → List ℕ → Answer (List ℕ)
 unfolding encode opening
 joinOf s a b =
     next (read s a) (λ p. next (read s b) (λ q.
-    cond (sameBytes (opening (p .1 .lines)) (opening (q .1 .lines))) (within (encode (p .0) (join (p .1) (q .1)))) (refused openingsDiffer)))
+    cond (sameBytes (opening (p .1 .lines)) (opening (q .1 .lines))) (withinLimit (encode (p .0) (join (p .1) (q .1)))) (refused openingsDiffer)))

@@ -9,7 +9,7 @@ use lib.ListN.{length, take, drop, length-append, length-drop}
 use lib.Dec.{leb}
 use borrow.Author.Tests.{le-leb, lt-leb, leb-true}
 use Rattle.refusals.specs.Refusal.{limit, tooLong, openingsDiffer}
-use Rattle.fields.specs.Lists.{flat, flat-append}
+use Rattle.fields.specs.Lists.{concatMap, concatMap-append}
 use Rattle.fields.specs.Word.{sameBytes, same-bytes, bytes-same}
 use Rattle.fields.specs.Number.{Bytes}
 use Rattle.fields.specs.Answer.{Answer, accepted, refused, next-inv, refused-inv, cond-inv, never, accepted-one}
@@ -21,7 +21,7 @@ use Rattle.gdb_format.specs.declared.Settings.{Settings}
 use Rattle.gdb_format.specs.declared.Format.{Format}
 use Rattle.gdb_read.specs.Steps.{Summary, summaryOf, readSeen}
 use Rattle.gdb_frames.specs.File.{File, file-of, frames-behind, start-within, opening-front, summary-inv}
-use Rattle.gdb_join.specs.Join.{join, within, joinOf}
+use Rattle.gdb_join.specs.Join.{join, withinLimit, joinOf}
 use Rattle.gdb_join.specs.Joined.{pairSeen}
 
 pub refused-same : {A : Type 0} {i j : ℕ} → _≡_ {A = Answer A} (refused i) (refused j) → j ≡ i
@@ -85,18 +85,18 @@ module _ (s : Settings) (a b : List ℕ) (f : Format) (t u : Trace) (i : Both s 
   pub joined-bytes : encode f (join t u) ≡ a ++ drop (length (opening (u .lines))) b
   unfolding encode
   joined-bytes =
-      ap (λ x. opening (t .lines) ++ x) (flat-append (putFrame f) (t .frames) (u .frames))
-      ∙ sym (append-assoc (opening (t .lines)) (flat (putFrame f) (t .frames)) (flat (putFrame f) (u .frames)))
+      ap (λ x. opening (t .lines) ++ x) (concatMap-append (putFrame f) (t .frames) (u .frames))
+      ∙ sym (append-assoc (opening (t .lines)) (concatMap (putFrame f) (t .frames)) (concatMap (putFrame f) (u .frames)))
       ∙ ap₂ (λ x z. x ++ z) (i .first-file .laid-out) (sym (frames-behind f b u (i .second-file)))
 
   joined-long : length (a ++ drop (length (opening (u .lines))) b) ≡ length a + (length b - length (opening (u .lines)))
   joined-long = omega (arith, length-append a (drop (length (opening (u .lines))) b), length-drop (length (opening (u .lines))) b)
 
-  open-join : joinOf s a b ≡ cond (sameBytes (opening (t .lines)) (opening (u .lines))) (within (a ++ drop (length (opening (u .lines))) b)) (refused openingsDiffer)
+  open-join : joinOf s a b ≡ cond (sameBytes (opening (t .lines)) (opening (u .lines))) (withinLimit (a ++ drop (length (opening (u .lines))) b)) (refused openingsDiffer)
   unfolding joinOf
   open-join =
       rw (i .first-read, i .second-read)
-      (ap (λ x. cond (sameBytes (opening (t .lines)) (opening (u .lines))) (within x) (refused openingsDiffer)) joined-bytes)
+      (ap (λ x. cond (sameBytes (opening (t .lines)) (opening (u .lines))) (withinLimit x) (refused openingsDiffer)) joined-bytes)
 
   pub join-differs : (take (length (opening (t .lines))) a ≡ take (length (opening (u .lines))) b → ⊥) → joinOf s a b ≡ refused openingsDiffer
   join-differs h =
@@ -104,14 +104,14 @@ module _ (s : Settings) (a b : List ℕ) (f : Format) (t u : Trace) (i : Both s 
       open-join ∙ rw (differ (opening (t .lines)) (opening (u .lines)) _ n refl)
 
   module _ (e : take (length (opening (t .lines))) a ≡ take (length (opening (u .lines))) b) where
-    one-opening : opening (t .lines) ≡ opening (u .lines)
-    one-opening = sym (opening-front f a t (i .first-file)) ∙ e ∙ opening-front f b u (i .second-file)
+    openings-agree : opening (t .lines) ≡ opening (u .lines)
+    openings-agree = sym (opening-front f a t (i .first-file)) ∙ e ∙ opening-front f b u (i .second-file)
 
     pub join-long : limit < length a + (length b - length (opening (u .lines))) → joinOf s a b ≡ refused tooLong
-    join-long h = open-join ∙ rw (one-opening, bytes-same (opening (u .lines)), lt-leb (length (a ++ drop (length (opening (u .lines))) b)) limit (omega (arith, joined-long)))
+    join-long h = open-join ∙ rw (openings-agree, bytes-same (opening (u .lines)), lt-leb (length (a ++ drop (length (opening (u .lines))) b)) limit (omega (arith, joined-long)))
 
     pub join-gives : length a + (length b - length (opening (u .lines))) ≤ limit → joinOf s a b ≡ accepted (a ++ drop (length (opening (u .lines))) b)
-    join-gives h = open-join ∙ rw (one-opening, bytes-same (opening (u .lines)), le-leb (length (a ++ drop (length (opening (u .lines))) b)) limit (omega (arith, joined-long)))
+    join-gives h = open-join ∙ rw (openings-agree, bytes-same (opening (u .lines)), le-leb (length (a ++ drop (length (opening (u .lines))) b)) limit (omega (arith, joined-long)))
 
   pub pair-gives : (c : List ℕ) → joinOf s a b ≡ accepted c → accepted (summaryOf f t, summaryOf f u) ≡ pairSeen s a b
   pair-gives c e = rw (e, i .first-read, i .second-read)
@@ -154,7 +154,7 @@ join-inv s a b c ha hb e =
     let p = next-inv (read s a) _ e in
     let q = next-inv (read s b) _ (p .2) in
     let r = both-read s a b (p .0 .0) (q .0 .0) (p .0 .1) (q .0 .1) ha hb (p .1) (q .1) in
-    let v = cond-inv (sameBytes (opening (p .0 .1 .lines)) (opening (q .0 .1 .lines))) (within (encode (p .0 .0) (join (p .0 .1) (q .0 .1)))) openingsDiffer (q .2) in
+    let v = cond-inv (sameBytes (opening (p .0 .1 .lines)) (opening (q .0 .1 .lines))) (withinLimit (encode (p .0 .0) (join (p .0 .1) (q .0 .1)))) openingsDiffer (q .2) in
     let w = cond-inv (leb (length (encode (p .0 .0) (join (p .0 .1) (q .0 .1)))) limit) (accepted (encode (p .0 .0) (join (p .0 .1) (q .0 .1)))) tooLong (v .1) in
     (p .0 .0, p .0 .1, q .0 .1, r .1, v .0, leb-true _ limit (w .0), accepted-one (w .1))
 

@@ -7,7 +7,7 @@ use mathlib.Core.List.{List, append-assoc, append-nil}
 use lib.ListN.{length, length-append}
 use borrow.Author.Tests.{le-leb}
 use Rattle.refusals.specs.Refusal.{limit}
-use Rattle.fields.specs.Lists.{flat, flat-append, each-append}
+use Rattle.fields.specs.Lists.{concatMap, concatMap-append, each-append}
 use Rattle.fields.specs.Word.{bytes-same}
 use Rattle.fields.specs.Answer.{accepted}
 use Rattle.gdb_format.specs.Trace.{Trace, opening, putFrame, encode}
@@ -27,11 +27,11 @@ join-bare t = rw append-nil
 
 -- how long a join is
 pub length-join : (f : Format) (t u : Trace)
-    → length (encode f (join t u)) ≡ length (opening (t .lines)) + (length (flat (putFrame f) (t .frames)) + length (flat (putFrame f) (u .frames)))
+    → length (encode f (join t u)) ≡ length (opening (t .lines)) + (length (concatMap (putFrame f) (t .frames)) + length (concatMap (putFrame f) (u .frames)))
 length-join f t u =
     length-encode f (join t u)
     ∙ ap (λ n. length (opening (t .lines)) + n)
-    (ap length (flat-append (putFrame f) (t .frames) (u .frames)) ∙ length-append (flat (putFrame f) (t .frames)) (flat (putFrame f) (u .frames)))
+    (ap length (concatMap-append (putFrame f) (t .frames) (u .frames)) ∙ length-append (concatMap (putFrame f) (t .frames)) (concatMap (putFrame f) (u .frames)))
 
 -- a join is no shorter than its second trace
 pub join-longer : (f : Format) (t u : Trace) → t .lines ≡ u .lines → length (encode f u) ≤ length (encode f (join t u))

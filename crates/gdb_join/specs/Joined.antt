@@ -5,7 +5,7 @@ use mathlib.Core.List.{List}
 use Rattle.fields.specs.Answer.{Answer, accepted, refused, next}
 use Rattle.gdb_format.specs.Decode.{read}
 use Rattle.gdb_format.specs.declared.Settings.{Settings}
-use Rattle.gdb_read.specs.Steps.{Summary, summaryOf, summarySaid}
+use Rattle.gdb_read.specs.Steps.{Summary, summaryOf, openedMeaning}
 use Rattle.gdb_join.specs.Join.{joinOf}
 use Rattle.gdb_join.specs.declared.Pair.{Pair}
 use Rattle.gdb_join.specs.declared.Pair.the-variants.{Sound, Refused}
@@ -17,5 +17,5 @@ pairSeen s a b =
 
 -- what `Pair` says
 abbrev pub pairMeaning : Pair → Answer (Summary × Summary)
-pairMeaning (Sound x y) = accepted (summarySaid x, summarySaid y)
+pairMeaning (Sound x y) = accepted (openedMeaning x, openedMeaning y)
 pairMeaning (Refused n) = refused n

@@ -1,7 +1,7 @@
 // Joining GDB traces into an output that the caller lends.
 ghost use mathlib.Core.Path.{_≡_};
 ghost use Rattle.fields.specs.Output.{Lent};
-ghost use Rattle.gdb_cut.specs.Cut.{editAnswer};
+ghost use Rattle.gdb_cut.specs.Cut.{editMeaning};
 ghost use Rattle.gdb_join.specs.Join.{joinOf};
 ghost use Rattle.gdb_join.specs.Joined.{pairMeaning, pairSeen};
 use gdb_cut::EditAnswer;
@@ -46,7 +46,7 @@ pub fn joinable(settings: Settings, first: &[u8], second: &[u8]) -> Pair
 
 // The common opening, the first trace's frames and the second's.
 pub fn join(settings: Settings, first: &[u8], second: &[u8], out: &mut [u8]) -> EditAnswer
-    ensures { λ r. ⌜ Lent (joinOf settings (now (first .entry)) (now (second .entry))) (now (out .entry)) (editAnswer r) (now (out .exit)) ⌝ }
+    ensures { λ r. ⌜ Lent (joinOf settings (now (first .entry)) (now (second .entry))) (now (out .entry)) (editMeaning r) (now (out .exit)) ⌝ }
 {
     match joinable(settings, first, second) {
         Pair::Refused(n) => EditAnswer::Refused(n),

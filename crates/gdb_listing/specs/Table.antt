@@ -10,10 +10,11 @@ use lib.ListN.{length, length-append}
 use lib.Dec.{ltb, lit≤}
 use borrow.Author.Tests.{lt-ltb, le-ltb, ltb-false}
 use Rattle.refusals.specs.Refusal.{tooLong, last, Listed}
-use Rattle.fields.specs.Lists.{flat, Each}
+use Rattle.fields.specs.Lists.{concatMap, Each}
 use Rattle.fields.specs.Number.{Bytes, field, length-field}
 use Rattle.fields.specs.Answer.{Answer, accepted, refused, next}
 use Rattle.fields.specs.Refuses.{refuses-in}
+use Rattle.fields.specs.Element.{nth}
 use Rattle.gdb_format.specs.Trace.{Frame, Trace, opening, putFrame, dataOf}
 use Rattle.gdb_format.specs.Lines.{registerSize}
 use Rattle.gdb_format.specs.Layout.{FrameFits}
@@ -22,7 +23,7 @@ use Rattle.gdb_format.specs.Numbers.{fileNumbers, file-numbers}
 use Rattle.gdb_format.specs.declared.Format.{Format}
 use Rattle.gdb_format.specs.declared.Settings.{Settings}
 use Rattle.gdb_read.specs.Steps.{Row, frameSeen, Summary, readSeen}
-use Rattle.gdb_frames.specs.Places.{placed, nth}
+use Rattle.gdb_frames.specs.Places.{placed}
 use Rattle.gdb_frames.specs.Questions.{asked, table}
 use Rattle.gdb_frames.specs.Nth.{nthHead, shownNth}
 use Rattle.gdb_frames.specs.File.{File, file-of, length-encode, asked-refused, told}
@@ -33,17 +34,17 @@ use Rattle.gdb_listing.specs.Written.{Puts, puts-then}
 use Rattle.gdb_listing.specs.Rows.{rowsFrom, Listable}
 
 -- what frames show that stand from `at` on
-abbrev shown : Format → ℕ → List Frame → List Row
-shown f at xs = map (λ r. frameSeen f (r .0) (r .1)) (placed (putFrame f) at xs)
+abbrev rowsShown : Format → ℕ → List Frame → List Row
+rowsShown f at xs = map (λ r. frameSeen f (r .0) (r .1)) (placed (putFrame f) at xs)
 
 -- the walk meets them
 rows-shown : (f : Format) (s : List ℕ) (xs : List Frame) (at : ℕ)
-    → ((n : ℕ) → nthHead f s n at ≡ shownNth (frameSeen f) (putFrame f) (nth (placed (putFrame f) at xs) n)) → rowsFrom f s (length xs) at ≡ shown f at xs
+    → ((n : ℕ) → nthHead f s n at ≡ shownNth (frameSeen f) (putFrame f) (nth (placed (putFrame f) at xs) n)) → rowsFrom f s (length xs) at ≡ rowsShown f at xs
 rows-shown f s [] at e = refl
 rows-shown f s (x ∷ xs) at e =
     rw (e 0) (ap (λ rows. frameSeen f at x ∷ rows) (rows-shown f s xs (at + length (putFrame f x)) (λ n. rw (e 0) at (e (suc n)))))
 
-shown-length : (f : Format) (at : ℕ) (xs : List Frame) → length (shown f at xs) ≡ length xs
+shown-length : (f : Format) (at : ℕ) (xs : List Frame) → length (rowsShown f at xs) ≡ length xs
 shown-length f at [] = refl
 shown-length f at (x ∷ xs) = ap suc (shown-length f (at + length (putFrame f x)) xs)
 
@@ -58,20 +59,20 @@ frame-length f r =
       length-field (f .order) 4 (length d),
     )
 
-frames-length : (f : Format) (xs : List Frame) → 6 * length xs ≤ length (flat (putFrame f) xs)
+frames-length : (f : Format) (xs : List Frame) → 6 * length xs ≤ length (concatMap (putFrame f) xs)
 frames-length f [] = omega arith
-frames-length f (x ∷ xs) = omega (arith, length-append (putFrame f x) (flat (putFrame f) xs), frame-length f x, frames-length f xs)
+frames-length f (x ∷ xs) = omega (arith, length-append (putFrame f x) (concatMap (putFrame f) xs), frame-length f x, frames-length f xs)
 
-lines-short : (f : Format) (size : Option ℕ) (xs : List Frame) (at : ℕ) → Each (FrameFits f size) xs → at + length (flat (putFrame f) xs) ≤ listingLimit
-    → length (flat lineOf (shown f at xs)) ≤ 18 * length xs
+lines-short : (f : Format) (size : Option ℕ) (xs : List Frame) (at : ℕ) → Each (FrameFits f size) xs → at + length (concatMap (putFrame f) xs) ≤ listingLimit
+    → length (concatMap lineOf (rowsShown f at xs)) ≤ 18 * length xs
 lines-short f size [] at g h = omega arith
 lines-short f size (x ∷ xs) at g h =
-    let k = length-append (putFrame f x) (flat (putFrame f) xs) in
+    let k = length-append (putFrame f x) (concatMap (putFrame f) xs) in
     let m = frame-length f x in
     let tp : x .tracepoint < 65536 = g .0 .0 in
     let one = line-short (frameSeen f at x) (omega arith) (omega (arith, k, m)) (omega (arith, k, m)) in
     let more = lines-short f size xs (at + length (putFrame f x)) (g .1) (omega (arith, k)) in
-    omega (arith, length-append (lineOf (frameSeen f at x)) (flat lineOf (shown f (at + length (putFrame f x)) xs)))
+    omega (arith, length-append (lineOf (frameSeen f at x)) (concatMap lineOf (rowsShown f (at + length (putFrame f x)) xs)))
 
 -- ---- an accepted file
 
@@ -79,7 +80,7 @@ module _ (f : Format) (b : List ℕ) (t : Trace) (i : File f b t) where
   pub rows-table : rowsFrom f b (length (t .frames)) (length (opening (t .lines))) ≡ table f t
   rows-table = rows-shown f b (t .frames) (length (opening (t .lines))) (λ n. head-nth f b t n i)
 
-  file-length : length (opening (t .lines)) + length (flat (putFrame f) (t .frames)) ≡ length b
+  file-length : length (opening (t .lines)) + length (concatMap (putFrame f) (t .frames)) ≡ length b
   file-length = sym (length-encode f t) ∙ ap length (i .laid-out)
 
   pub frames-few : 6 * length (t .frames) ≤ length b
@@ -94,26 +95,26 @@ module _ (f : Format) (b : List ℕ) (t : Trace) (i : File f b t) where
       }
 
 -- how long a text is
-pub rows-length : (rows : List Row) → length (text (accepted rows)) ≡ 7 + length (decimal (length rows)) + 1 + length (flat lineOf rows)
+pub rows-length : (rows : List Row) → length (text (accepted rows)) ≡ 7 + length (decimal (length rows)) + 1 + length (concatMap lineOf rows)
 rows-length rows =
     omega (
       arith,
-      length-append framesWord (ended (length rows) 0x0A ++ flat lineOf rows),
-      length-append (ended (length rows) 0x0A) (flat lineOf rows),
+      length-append framesWord (ended (length rows) 0x0A ++ concatMap lineOf rows),
+      length-append (ended (length rows) 0x0A) (concatMap lineOf rows),
       ended-length (length rows) 0x0A,
     )
 
 pub table-length : (f : Format) (s : List ℕ) (n at : ℕ) → Listable f s n at
-    → length (text (accepted (rowsFrom f s n at))) ≡ 7 + length (decimal n) + 1 + length (flat lineOf (rowsFrom f s n at))
+    → length (text (accepted (rowsFrom f s n at))) ≡ 7 + length (decimal n) + 1 + length (concatMap lineOf (rowsFrom f s n at))
 table-length f s n at i =
-    rows-length (rowsFrom f s n at) ∙ ap (λ k. 7 + length (decimal k) + 1 + length (flat lineOf (rowsFrom f s n at))) (i .count)
+    rows-length (rowsFrom f s n at) ∙ ap (λ k. 7 + length (decimal k) + 1 + length (concatMap lineOf (rowsFrom f s n at))) (i .count)
 
 pub refusal-length : (n : ℕ) → length (text (refused n)) ≡ 8 + length (decimal n) + 1
 refusal-length n = omega (arith, length-append refusedWord (ended n 0x0A), ended-length n 0x0A)
 
 -- the words and the lines, one after another
 pub puts-table : {out one two after : List ℕ} {a b r : ℕ} (f : Format) (s : List ℕ) (n at : ℕ) → Listable f s n at
-    → Puts out 0 framesWord a one → Puts one a (ended n 0x0A) b two → Puts two b (flat lineOf (rowsFrom f s n at)) r after
+    → Puts out 0 framesWord a one → Puts one a (ended n 0x0A) b two → Puts two b (concatMap lineOf (rowsFrom f s n at)) r after
     → Puts out 0 (text (accepted (rowsFrom f s n at))) r after
 puts-table {out} {one} {two} {after} {a} {b} f s n at i p q r =
     puts-then p (puts-then (subst (λ k. Puts one a (ended k 0x0A) b two) (sym (i .count)) q) r)

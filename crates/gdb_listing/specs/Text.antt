@@ -6,7 +6,7 @@ use mathlib.Core.List.{List, [], _∷_, _++_}
 use lib.ListN.{length}
 use lib.Dec.{ltb}
 use Rattle.refusals.specs.Refusal.{tooLong, noRoom}
-use Rattle.fields.specs.Lists.{flat}
+use Rattle.fields.specs.Lists.{concatMap}
 use Rattle.fields.specs.Answer.{Answer, accepted, refused}
 use Rattle.gdb_format.specs.Trace.{Trace}
 use Rattle.gdb_format.specs.declared.Format.{Format}
@@ -45,7 +45,7 @@ refusedWord = 0x72 ∷ 0x65 ∷ 0x66 ∷ 0x75 ∷ 0x73 ∷ 0x65 ∷ 0x64 ∷ 0x2
 
 -- the number of frames and a line for each, or the refusal
 abbrev pub text : Answer (List Row) → List ℕ
-text (accepted rows) = framesWord ++ (ended (length rows) 0x0A ++ flat lineOf rows)
+text (accepted rows) = framesWord ++ (ended (length rows) 0x0A ++ concatMap lineOf rows)
 text (refused n) = refusedWord ++ ended n 0x0A
 
 -- ---- what is listed
@@ -71,6 +71,6 @@ abbrev pub listingOf : List ℕ → Answer (List ℕ)
 listingOf b = accepted (text (listed b))
 
 -- what `ListingAnswer` says: how long the text is, or 11
-abbrev pub listingAnswer : ListingAnswer → Answer ℕ
-listingAnswer (Written n) = accepted n
-listingAnswer NoRoom = refused noRoom
+abbrev pub listingMeaning : ListingAnswer → Answer ℕ
+listingMeaning (Written n) = accepted n
+listingMeaning NoRoom = refused noRoom

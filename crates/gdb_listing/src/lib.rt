@@ -3,11 +3,11 @@ ghost use mathlib.Core.Path.{_≡_};
 ghost use mathlib.Core.List.{[], _∷_};
 ghost use Prim.Native.Nat.{_+_, _<_, _≤_};
 ghost use lib.ListN.{length};
-ghost use Rattle.fields.specs.Lists.{flat};
+ghost use Rattle.fields.specs.Lists.{concatMap};
 ghost use Rattle.fields.specs.Answer.{accepted, refused};
 ghost use Rattle.fields.specs.Output.{Lent};
 ghost use Rattle.gdb_read.specs.Steps.{headMeaning};
-ghost use Rattle.gdb_listing.specs.Text.{decimal, ended, lineOf, listingOf, listingAnswer};
+ghost use Rattle.gdb_listing.specs.Text.{decimal, ended, lineOf, listingOf, listingMeaning};
 ghost use Rattle.gdb_listing.specs.Written.{Puts};
 ghost use Rattle.gdb_listing.specs.Rows.{rowsFrom, Listable};
 ghost use Rattle.gdb_listing.specs.Outcome.{Lists};
@@ -86,8 +86,8 @@ fn put_lines(
     out: &mut [u8],
     begin: usize,
 ) -> usize
-    requires { ⌜ begin + length (flat lineOf (rowsFrom format (now file) frames start)) ≤ length (now out) ⌝ }
-    ensures { λ r. ⌜ Puts (now (out .entry)) begin (flat lineOf (rowsFrom format (now (file .entry)) frames start)) r (now (out .exit)) ⌝ }
+    requires { ⌜ begin + length (concatMap lineOf (rowsFrom format (now file) frames start)) ≤ length (now out) ⌝ }
+    ensures { λ r. ⌜ Puts (now (out .entry)) begin (concatMap lineOf (rowsFrom format (now (file .entry)) frames start)) r (now (out .exit)) ⌝ }
 {
     let mut at = start;
     let mut left = frames;
@@ -138,7 +138,7 @@ fn line_length(head: FrameHead) -> usize
 // How long the lines of `frames` frames are, the first of which starts at `start`.
 fn lines_length(format: Format, file: &[u8], start: usize, frames: usize) -> usize
     requires { ⌜ Listable format (now file) frames start ⌝ }
-    ensures { λ r. ⌜ r ≡ length (flat lineOf (rowsFrom format (now (file .entry)) frames start)) ⌝ }
+    ensures { λ r. ⌜ r ≡ length (concatMap lineOf (rowsFrom format (now (file .entry)) frames start)) ⌝ }
 {
     let mut at = start;
     let mut rest = frames;
@@ -191,7 +191,7 @@ fn put_table(
 
 // Writes the listing of a little-endian file to the front of `out`.
 pub fn listing(file: &[u8], out: &mut [u8]) -> ListingAnswer
-    ensures { λ r. ⌜ Lent (listingOf (now (file .entry))) (now (out .entry)) (listingAnswer r) (now (out .exit)) ⌝ }
+    ensures { λ r. ⌜ Lent (listingOf (now (file .entry))) (now (out .entry)) (listingMeaning r) (now (out .exit)) ⌝ }
 {
     if LIMIT < file.len() {
         return put_refusal(TOO_LONG, out);

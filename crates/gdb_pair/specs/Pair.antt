@@ -40,10 +40,10 @@ unfoldable pub pairPlace : Settings → List ℕ → List ℕ → ℕ → Answer
 pairPlace s a b n = next (joinOf s a b) (λ c. next (read s a) (λ p. next (read s b) (λ q. sided (p .0) n (p .1) (q .1))))
 
 -- what `PairPlace` says
-abbrev pub pairSaid : PairPlace → Answer (Side × (ℕ × ℕ))
-pairSaid (pair.First p n) = accepted (first, (p, n))
-pairSaid (pair.Second p n) = accepted (second, (p, n))
-pairSaid (pair.Refused n) = refused n
+abbrev pub pairPlaceMeaning : PairPlace → Answer (Side × (ℕ × ℕ))
+pairPlaceMeaning (pair.First p n) = accepted (first, (p, n))
+pairPlaceMeaning (pair.Second p n) = accepted (second, (p, n))
+pairPlaceMeaning (pair.Refused n) = refused n
 
 -- the part that a place names: empty where it refuses
 abbrev pub sidePart : List ℕ → List ℕ → Side → ℕ × ℕ → List ℕ

@@ -18,7 +18,7 @@ use Rattle.gdb_format.specs.Exactness.{read-exactness}
 use Rattle.gdb_format.specs.declared.Settings.{Settings}
 use Rattle.gdb_format.specs.declared.Format.{Format}
 use Rattle.gdb_read.specs.Steps.{Summary, summaryOf, frameSeen}
-use Rattle.gdb_frames.specs.Places.{framesAt, nth, part, partNamed}
+use Rattle.gdb_frames.specs.Places.{framesAt, part, partNamed}
 use Rattle.gdb_frames.specs.Questions.{asked, dataIn, frameData}
 use Rattle.gdb_frames.specs.Nth.{nthHead, shownNth}
 use Rattle.gdb_frames.specs.File.{File}
@@ -32,6 +32,7 @@ use Rattle.gdb_join.specs.Joined.{pairSeen}
 use Rattle.gdb_join.specs.JoinTraces.{layout-join}
 use Rattle.gdb_frames.specs.File.{read-file, same-lines}
 use Rattle.fields.specs.Word.{same-bytes}
+use Rattle.fields.specs.Element.{nth}
 use Rattle.gdb_join.specs.JoinLaws.{refused-same, Both, join-inv, pair-gives}
 use Rattle.gdb_pair.specs.Pair.{Side, first, second, onSide, sided, pairPlace, pairPart, HandedPair, pairVariable, foundPlace}
 

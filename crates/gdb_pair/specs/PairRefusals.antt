@@ -10,10 +10,11 @@ use lib.Dec.{ltb}
 use borrow.Author.Tests.{ltb-true, ltb-false}
 use Rattle.fields.specs.Number.{Bytes}
 use Rattle.fields.specs.Answer.{Answer, accepted, refused, next}
+use Rattle.fields.specs.Element.{nth}
 use Rattle.gdb_format.specs.Trace.{Frame, Trace, opening, putFrame, dataOf}
 use Rattle.gdb_format.specs.declared.Settings.{Settings}
 use Rattle.gdb_format.specs.declared.Format.{Format}
-use Rattle.gdb_frames.specs.Places.{framesAt, nth}
+use Rattle.gdb_frames.specs.Places.{framesAt}
 use Rattle.gdb_frames.specs.Questions.{asked, frameData}
 use Rattle.gdb_frames.specs.PlaceLaws.{placed-nth}
 use Rattle.gdb_join.specs.Join.{join, joinOf}

@@ -1,9 +1,9 @@
 // Two GDB traces read as if they were joined, with no copy made.
 ghost use mathlib.Core.Path.{_≡_};
 ghost use Rattle.gdb_frames.specs.Nth.{nthHead};
-ghost use Rattle.gdb_frames.specs.Questions.{placeAnswer};
-ghost use Rattle.gdb_blocks.specs.Search.{valueAnswer};
-ghost use Rattle.gdb_pair.specs.Pair.{foundPlace, pairPlace, pairSaid, HandedPair, pairVariable};
+ghost use Rattle.gdb_frames.specs.Questions.{placeMeaning};
+ghost use Rattle.gdb_blocks.specs.Search.{valueMeaning};
+ghost use Rattle.gdb_pair.specs.Pair.{foundPlace, pairPlace, pairPlaceMeaning, HandedPair, pairVariable};
 use gdb_blocks::ValueAnswer;
 use gdb_format::Settings;
 use gdb_frames::PlaceAnswer;
@@ -14,7 +14,7 @@ use refusals::NOT_FOUND;
 
 // The data of frame n of a file that was read.
 fn frame_in(o: Opened, file: &[u8], n: usize) -> PlaceAnswer
-    ensures { λ r. ⌜ placeAnswer r ≡ foundPlace (nthHead (o .format) (now (file .entry)) n (o .start)) ⌝ }
+    ensures { λ r. ⌜ placeMeaning r ≡ foundPlace (nthHead (o .format) (now (file .entry)) n (o .start)) ⌝ }
 {
     let format = o.format;
     match gdb_frames::nth_head(format, file, o.start, n) {
@@ -36,7 +36,7 @@ pub enum PairPlace {
 
 // Frame n of the two traces, read as if joined.
 pub fn pair_place(settings: Settings, first: &[u8], second: &[u8], n: usize) -> PairPlace
-    ensures { λ r. ⌜ pairSaid r ≡ pairPlace settings (now (first .entry)) (now (second .entry)) n ⌝ }
+    ensures { λ r. ⌜ pairPlaceMeaning r ≡ pairPlace settings (now (first .entry)) (now (second .entry)) n ⌝ }
 {
     match gdb_join::joinable(settings, first, second) {
         Pair::Refused(k) => PairPlace::Refused(k),
@@ -85,7 +85,7 @@ pub fn pair_variable(
     n: usize,
     number: u32,
 ) -> ValueAnswer
-    ensures { λ r. ⌜ valueAnswer r ≡ pairVariable settings (now (first .entry)) (now (second .entry)) n number ⌝ }
+    ensures { λ r. ⌜ valueMeaning r ≡ pairVariable settings (now (first .entry)) (now (second .entry)) n number ⌝ }
 {
     match gdb_join::joinable(settings, first, second) {
         Pair::Refused(k) => ValueAnswer::Refused(k),

@@ -44,9 +44,9 @@ frameMeaning (framestep.Frame h m) = accepted (some (headMeaning h, m))
 frameMeaning (framestep.Refused n) = refused n
 
 -- the number of frames
-abbrev pub countMeaning : Count → Answer ℕ
-countMeaning (count.Frames n) = accepted n
-countMeaning (count.Refused n) = refused n
+abbrev pub framesMeaning : Count → Answer ℕ
+framesMeaning (count.Frames n) = accepted n
+framesMeaning (count.Refused n) = refused n
 
 abbrev pub framesCounted : Format → Option ℕ → List ℕ → Answer ℕ
 framesCounted f size b = next (frames f size b) (λ fs. accepted (length fs))
@@ -71,9 +71,9 @@ abbrev pub readSeen : Answer (Format × Trace) → Answer Summary
 readSeen x = next x (λ r. accepted (summaryOf (r .0) (r .1)))
 
 -- what `Opened` and `Reading` say
-abbrev pub summarySaid : Opened → Summary
-summarySaid o = record { format = o .format; size = sizeIn (o .size); start = o .start; frames = o .frames }
+abbrev pub openedMeaning : Opened → Summary
+openedMeaning o = record { format = o .format; size = sizeIn (o .size); start = o .start; frames = o .frames }
 
 abbrev pub readingMeaning : Reading → Answer Summary
-readingMeaning (reading.Accepted o) = accepted (summarySaid o)
+readingMeaning (reading.Accepted o) = accepted (openedMeaning o)
 readingMeaning (reading.Refused n) = refused n

@@ -5,7 +5,7 @@ ghost use Rattle.fields.specs.Reader.{stepAt};
 ghost use Rattle.gdb_format.specs.Opening.{sizeIn};
 ghost use Rattle.gdb_format.specs.Decode.{frameHead, frame, decode};
 ghost use Rattle.gdb_format.specs.Decode.{read as fileRead};
-ghost use Rattle.gdb_read.specs.Steps.{frameMeaning, headSeen, frameSeen, countMeaning, framesCounted, readingMeaning, summaryIn, readSeen};
+ghost use Rattle.gdb_read.specs.Steps.{frameMeaning, headSeen, frameSeen, framesMeaning, framesCounted, readingMeaning, summaryIn, readSeen};
 use gdb_data::Verdict;
 use gdb_format::Checked;
 use gdb_format::Format;
@@ -84,7 +84,7 @@ enum Count {
 
 // How many frames fill `s` from `from` on.
 fn frames_from(format: Format, size: RegisterSize, s: &[u8], from: usize) -> Count
-    ensures { λ r. ⌜ countMeaning r ≡ framesCounted format (sizeIn size) (drop from (now (s .entry))) ⌝ }
+    ensures { λ r. ⌜ framesMeaning r ≡ framesCounted format (sizeIn size) (drop from (now (s .entry))) ⌝ }
 {
     let mut at = from;
     let mut n: usize = 0;

@@ -16,7 +16,7 @@ use Rattle.gdb_frames.specs.Questions.{asked}
 use Rattle.gdb_table.specs.declared.FrameRecord.{FrameRecord}
 use Rattle.gdb_table.specs.declared.Step.{Step}
 use Rattle.gdb_table.specs.declared.Plan.{Plan}
-use Rattle.gdb_table.specs.Records.{frameTable, tableAnswer}
+use Rattle.gdb_table.specs.Records.{frameTable, tableMeaning}
 use Rattle.gdb_table.specs.Walk.{stepFrom, recordsFrom, toWrite, Planned}
 
 -- of the plan p: i records are written, the walk stands at `at`, and the list, which was ys, is ws
@@ -76,7 +76,7 @@ module _ (s : Settings) (b : List ℕ) (p : Plan) (ys : List FrameRecord) (plann
     counted : p .writes ≤ i → i ≡ length (toWrite (fitting (length ys) (asked s b frameTable)))
     counted over = omega (arith, f .below, ap length (planned .finds), length-records (p .format) b (p .writes) (p .start))
 
-    pub ends : p .writes ≤ i → Lent (asked s b frameTable) ys (tableAnswer (p .answer)) ws
+    pub ends : p .writes ≤ i → Lent (asked s b frameTable) ys (tableMeaning (p .answer)) ws
     ends over = record {
       answers = planned .answers;
       leaves =

@@ -11,12 +11,13 @@ use Rattle.refusals.specs.Refusal.{noRoom}
 use Rattle.fields.specs.Number.{Bytes}
 use Rattle.fields.specs.Answer.{Answer, accepted, refused, never}
 use Rattle.fields.specs.Output.{fitting, counted}
+use Rattle.fields.specs.Element.{nth}
 use Rattle.gdb_format.specs.Trace.{Frame, Trace, putFrame, opening}
 use Rattle.gdb_format.specs.Decode.{read}
 use Rattle.gdb_format.specs.declared.Format.{Format}
 use Rattle.gdb_format.specs.declared.Settings.{Settings}
 use Rattle.gdb_read.specs.Steps.{frameSeen, Summary, readSeen}
-use Rattle.gdb_frames.specs.Places.{placed, nth}
+use Rattle.gdb_frames.specs.Places.{placed}
 use Rattle.gdb_frames.specs.Questions.{asked, table}
 use Rattle.gdb_frames.specs.Nth.{nthHead, shownNth}
 use Rattle.gdb_frames.specs.File.{File, told}

@@ -20,6 +20,6 @@ abbrev pub frameTable : Format → Trace → Answer (List FrameRecord)
 frameTable f t = accepted (map recordOf (table f t))
 
 -- what `TableAnswer` says
-abbrev pub tableAnswer : TableAnswer → Answer ℕ
-tableAnswer (answer.Frames n) = accepted n
-tableAnswer (answer.Refused n) = refused n
+abbrev pub tableMeaning : TableAnswer → Answer ℕ
+tableMeaning (answer.Frames n) = accepted n
+tableMeaning (answer.Refused n) = refused n

@@ -18,7 +18,7 @@ use Rattle.gdb_table.specs.declared.Step.{Step}
 use Rattle.gdb_table.specs.declared.Plan.{Plan}
 use Rattle.gdb_table.specs.declared.TableAnswer.{TableAnswer}
 use Rattle.gdb_table.specs.declared.TableAnswer.the-variants as answer
-use Rattle.gdb_table.specs.Records.{recordOf, frameTable, tableAnswer}
+use Rattle.gdb_table.specs.Records.{recordOf, frameTable, tableMeaning}
 
 -- ---- one step
 
@@ -61,6 +61,6 @@ noPlan n = planOf (record { order = Little }) 0 0 (answer.Refused n)
 
 -- a plan for so many lent records: its answer is the question's, and its walk finds the records to be written
 pub record Planned (s : Settings) (b : List ℕ) (room : ℕ) (p : Plan) : Type 0 where
-  pub answers : tableAnswer (p .answer) ≡ counted (fitting room (asked s b frameTable))
+  pub answers : tableMeaning (p .answer) ≡ counted (fitting room (asked s b frameTable))
   pub finds : recordsFrom (p .format) b (p .writes) (p .start) ≡ toWrite (fitting room (asked s b frameTable))
   pub fits : p .writes ≤ room

@@ -3,7 +3,7 @@ ghost use mathlib.Core.Path.{_≡_};
 ghost use Rattle.gdb_read.specs.Steps.{headMeaning};
 ghost use Rattle.fields.specs.Output.{Lent};
 ghost use Rattle.gdb_frames.specs.Questions.{asked};
-ghost use Rattle.gdb_table.specs.Records.{recordOf, frameTable, tableAnswer};
+ghost use Rattle.gdb_table.specs.Records.{recordOf, frameTable, tableMeaning};
 ghost use Rattle.gdb_table.specs.Walk.{noFrame, stepFrom, planOf, noPlan, Planned};
 use fields::Order;
 use gdb_format::Format;
@@ -126,7 +126,7 @@ fn planned(settings: Settings, file: &[u8], room: usize) -> Plan
 
 // The records of the frames, written to the start of `out`; nothing is written on a refusal.
 pub fn table(settings: Settings, file: &[u8], out: &mut [FrameRecord]) -> TableAnswer
-    ensures { λ r. ⌜ Lent (asked settings (now (file .entry)) frameTable) (now (out .entry)) (tableAnswer r) (now (out .exit)) ⌝ }
+    ensures { λ r. ⌜ Lent (asked settings (now (file .entry)) frameTable) (now (out .entry)) (tableMeaning r) (now (out .exit)) ⌝ }
 {
     let plan = planned(settings, file, out.len());
     let writes = plan.writes;
@@ -150,7 +150,7 @@ pub struct Table16 {
 
 // The table in 16 records that go in and come back by value, so that whoever calls this lends none.
 pub fn table_16(settings: Settings, file: &[u8], old: [FrameRecord; 16]) -> Table16
-    ensures { λ r. ⌜ Lent (asked settings (now (file .entry)) frameTable) old (tableAnswer (r .answer)) (r .records) ⌝ }
+    ensures { λ r. ⌜ Lent (asked settings (now (file .entry)) frameTable) old (tableMeaning (r .answer)) (r .records) ⌝ }
 {
     let mut records = old;
     let answer = table(settings, file, &mut records);

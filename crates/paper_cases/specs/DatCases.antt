@@ -1,4 +1,4 @@
--- Document 01's cases of trace.dat, and both sides of its rules, as one table with one statement about it; the bytes are written out.
+-- Document 01's cases of trace.dat, and both sides of its rules, as one table with one statement about it; the bytes are wholeFile out.
 -- Assumes nothing.
 use mathlib.Core.Path.{_≡_, refl}
 use Prim.Native.Nat.{ℕ, _-_, _^_}
@@ -78,8 +78,8 @@ abbrev flyrecord : List ℕ
 flyrecord = 0x66 ∷ 0x6C ∷ 0x79 ∷ 0x72 ∷ 0x65 ∷ 0x63 ∷ 0x6F ∷ 0x72 ∷ 0x64 ∷ 0 ∷ []
 
 -- 97 bytes: page size 4,096, every other section size and count 0, ending `flyrecord`
-abbrev written : List ℕ
-written =
+abbrev wholeFile : List ℕ
+wholeFile =
     -- 17 08 44, `tracing`, `6` NUL
     0x17 ∷ 8 ∷ 0x44 ∷ 0x74 ∷ 0x72 ∷ 0x61 ∷ 0x63 ∷ 0x69 ∷ 0x6E ∷ 0x67 ∷ 0x36 ∷ 0 ∷
     -- little, 8, 4,096
@@ -196,12 +196,12 @@ noSections =
 abbrev noTexts : ℕ → TextParts
 noTexts n = record { kallsyms = part 71 0; printk = part 75 0; processes = part 83 0; cpus = n }
 
-abbrev shown : Order → ℕ → ℕ → Part → EndingKind → Part → Summary
-shown o page n p e q = record { flags = flagsOf o 8 page; sections = noSections; texts = noTexts n; options = p; ending = e; body = q }
+abbrev summaryShown : Order → ℕ → ℕ → Part → EndingKind → Part → Summary
+summaryShown o page n p e q = record { flags = flagsOf o 8 page; sections = noSections; texts = noTexts n; options = p; ending = e; body = q }
 
 -- and no options
 abbrev plain : Order → ℕ → ℕ → EndingKind → ℕ → Summary
-plain o page n e size = shown o page n (part 0 0) e (part 97 size)
+plain o page n e size = summaryShown o page n (part 0 0) e (part 97 size)
 
 abbrev fullSummary : Summary
 fullSummary =
@@ -243,8 +243,8 @@ bigSummary =
 abbrev papers : List Case
 papers =
     -- document 01: 97 bytes, accepted; without the last byte; CPU counts on both sides
-    read written (plain Little 4096 0 Flyrecord 0) ∷
-    no (take 96 written) 14 ∷
+    read wholeFile (plain Little 4096 0 Flyrecord 0) ∷
+    no (take 96 wholeFile) 14 ∷
     read (empty little (0 ∷ 4 ∷ 0 ∷ 0 ∷ latency)) (plain Little 4096 1024 Latency 0) ∷
     no (empty little (1 ∷ 4 ∷ 0 ∷ 0 ∷ latency)) 16 ∷ []
 
@@ -285,9 +285,9 @@ numbers =
     read (empty (0 ∷ 8 ∷ 0 ∷ 0 ∷ 1 ∷ 0 ∷ []) (0 ∷ 0 ∷ 0 ∷ 0 ∷ latency)) (plain Little 65536 0 Latency 0) ∷
     read (empty (1 ∷ 8 ∷ 0 ∷ 0 ∷ 4 ∷ 0 ∷ []) (0 ∷ 0 ∷ 0 ∷ 0 ∷ latency)) (plain Big 1024 0 Latency 0) ∷
     -- 2 ^ 32 - 1 formats in a short file; a size of 2 ^ 64 - 1; a name with no NUL
-    no (take 59 written ++ 0xFF ∷ 0xFF ∷ 0xFF ∷ 0xFF ∷ []) 14 ∷
-    no (take 30 written ++ replicate 8 0xFF) 14 ∷
-    no (take 63 written ++ 1 ∷ 0 ∷ 0 ∷ 0 ∷ 0x61 ∷ []) 14 ∷ []
+    no (take 59 wholeFile ++ 0xFF ∷ 0xFF ∷ 0xFF ∷ 0xFF ∷ []) 14 ∷
+    no (take 30 wholeFile ++ replicate 8 0xFF) 14 ∷
+    no (take 63 wholeFile ++ 1 ∷ 0 ∷ 0 ∷ 0 ∷ 0x61 ∷ []) 14 ∷ []
 
 abbrev tails : List Case
 tails =
@@ -296,7 +296,7 @@ tails =
     no (empty little (1 ∷ 4 ∷ 0 ∷ 0 ∷ replicate 10 0)) 16 ∷
     no (empty little (0 ∷ 4 ∷ 0 ∷ 0 ∷ [])) 14 ∷
     -- a list of its closing 0 alone; `options` a second time; options cut
-    read (empty little (0 ∷ 0 ∷ 0 ∷ 0 ∷ optionsText ++ 0 ∷ 0 ∷ flyrecord)) (shown Little 4096 0 (part 97 2) Flyrecord (part 109 0)) ∷
+    read (empty little (0 ∷ 0 ∷ 0 ∷ 0 ∷ optionsText ++ 0 ∷ 0 ∷ flyrecord)) (summaryShown Little 4096 0 (part 97 2) Flyrecord (part 109 0)) ∷
     no (empty little (0 ∷ 0 ∷ 0 ∷ 0 ∷ optionsText ++ 0 ∷ 0 ∷ optionsText ++ 0 ∷ 0 ∷ flyrecord)) 15 ∷
     no (empty little (0 ∷ 0 ∷ 0 ∷ 0 ∷ optionsText ++ 1 ∷ 0 ∷ 2 ∷ 0 ∷ 0 ∷ 0 ∷ 9 ∷ [])) 14 ∷ []
 

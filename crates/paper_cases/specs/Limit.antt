@@ -7,7 +7,7 @@ use mathlib.Core.List.{[], _∷_}
 use lib.ListN.{length, replicate, length-replicate, length-append}
 use borrow.Author.Tests.{lt-leb}
 use Rattle.refusals.specs.Refusal.{limit, tooLong}
-use Rattle.fields.specs.Lists.{flat, clash}
+use Rattle.fields.specs.Lists.{concatMap, clash}
 use Rattle.fields.specs.Number.{length-field}
 use Rattle.fields.specs.Answer.{accepted, refused}
 use Rattle.gdb_format.specs.Trace.{Trace, traceOf, putFrame, opening, encode}
@@ -35,10 +35,10 @@ module _ (s : Settings) (f : Format) (ok : settingsOf s ≡ accepted f) (k : ℕ
   unfolding opening
   opening-long = simp (length-append, length-replicate) (omega arith)
 
-  frame-long : length (flat (putFrame f) (long k .frames)) ≡ 6
+  frame-long : length (concatMap (putFrame f) (long k .frames)) ≡ 6
   frame-long = simp (length-append, length-field) refl
 
-  frames-long : length (flat (putFrame f) (join (long k) (long k) .frames)) ≡ 12
+  frames-long : length (concatMap (putFrame f) (join (long k) (long k) .frames)) ≡ 12
   frames-long = simp (length-append, length-field) refl
 
   file-long : k + 17 ≤ limit → File f (encode f (long k)) (long k)

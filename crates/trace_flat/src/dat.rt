@@ -1,6 +1,6 @@
 // The answers about a trace.dat file as C has them.
 ghost use mathlib.Core.Path.{_≡_};
-ghost use Rattle.tracedat.specs.Questions.{summaryAnswer, rangeAnswer};
+ghost use Rattle.tracedat.specs.Questions.{summaryMeaning, rangeMeaning};
 ghost use Rattle.trace_flat.specs.FlatDat.{orderNumber, endingNumber, flatPart, shownSummary, refusedSummary, flatSummary, flatRange};
 use dat_read::summary;
 use dat_read::summary::EndingKind;
@@ -129,7 +129,7 @@ fn refused_summary(refusal: u8) -> DatSummary
 }
 
 pub fn flat_summary(answer: SummaryAnswer) -> DatSummary
-    ensures { λ r. ⌜ r ≡ flatSummary (summaryAnswer answer) ⌝ }
+    ensures { λ r. ⌜ r ≡ flatSummary (summaryMeaning answer) ⌝ }
 {
     match answer {
         SummaryAnswer::Accepted(summary) => shown_summary(summary),
@@ -145,7 +145,7 @@ pub struct CpuRange {
 }
 
 pub fn flat_range(answer: RangeAnswer) -> CpuRange
-    ensures { λ r. ⌜ r ≡ flatRange (rangeAnswer answer) ⌝ }
+    ensures { λ r. ⌜ r ≡ flatRange (rangeMeaning answer) ⌝ }
 {
     match answer {
         RangeAnswer::Range { offset, size } => CpuRange {

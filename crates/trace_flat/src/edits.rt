@@ -1,7 +1,7 @@
 // Selections, and the answers of cut, join and pairs, as C has them.
 ghost use mathlib.Core.Path.{_≡_};
-ghost use Rattle.gdb_cut.specs.Cut.{editAnswer};
-ghost use Rattle.gdb_pair.specs.Pair.{pairSaid};
+ghost use Rattle.gdb_cut.specs.Cut.{editMeaning};
+ghost use Rattle.gdb_pair.specs.Pair.{pairPlaceMeaning};
 ghost use Rattle.trace_flat.specs.Flat.{flatLength, flatPair, selectionIn, flatSelection};
 use gdb_cut::EditAnswer;
 use gdb_cut::Range;
@@ -44,7 +44,7 @@ pub struct Length {
 }
 
 pub fn flat_length(answer: EditAnswer) -> Length
-    ensures { λ r. ⌜ r ≡ flatLength (editAnswer answer) ⌝ }
+    ensures { λ r. ⌜ r ≡ flatLength (editMeaning answer) ⌝ }
 {
     match answer {
         EditAnswer::Written(length) => Length { refusal: 0, length },
@@ -61,7 +61,7 @@ pub struct PairPart {
 }
 
 pub fn flat_pair(answer: PairPlace) -> PairPart
-    ensures { λ r. ⌜ r ≡ flatPair (pairSaid answer) ⌝ }
+    ensures { λ r. ⌜ r ≡ flatPair (pairPlaceMeaning answer) ⌝ }
 {
     match answer {
         PairPlace::First { place, length } => PairPart {

@@ -1,9 +1,9 @@
 // The answers about a GDB trace as C has them.
 ghost use mathlib.Core.Path.{_≡_};
 ghost use Rattle.gdb_data.specs.Blocks.{kindMeaning};
-ghost use Rattle.gdb_frames.specs.Questions.{countAnswer, placeAnswer, lineAnswer};
-ghost use Rattle.gdb_blocks.specs.Search.{blockAnswer, valueAnswer};
-ghost use Rattle.gdb_table.specs.Records.{tableAnswer};
+ghost use Rattle.gdb_frames.specs.Questions.{countMeaning, placeMeaning, lineMeaning};
+ghost use Rattle.gdb_blocks.specs.Search.{blockMeaning, valueMeaning};
+ghost use Rattle.gdb_table.specs.Records.{tableMeaning};
 ghost use Rattle.trace_flat.specs.Flat.{flatCount, flatPlace, kindNumber, flatLine, shownBlock, flatBlock, flatValue};
 use gdb_blocks::BlockAnswer;
 use gdb_blocks::ValueAnswer;
@@ -22,7 +22,7 @@ pub struct Count {
 }
 
 pub fn flat_count(answer: CountAnswer) -> Count
-    ensures { λ r. ⌜ r ≡ flatCount (countAnswer answer) ⌝ }
+    ensures { λ r. ⌜ r ≡ flatCount (countMeaning answer) ⌝ }
 {
     match answer {
         CountAnswer::Frames(count) => Count { refusal: 0, count },
@@ -31,7 +31,7 @@ pub fn flat_count(answer: CountAnswer) -> Count
 }
 
 pub fn flat_table(answer: TableAnswer) -> Count
-    ensures { λ r. ⌜ r ≡ flatCount (tableAnswer answer) ⌝ }
+    ensures { λ r. ⌜ r ≡ flatCount (tableMeaning answer) ⌝ }
 {
     match answer {
         TableAnswer::Frames(count) => Count { refusal: 0, count },
@@ -62,7 +62,7 @@ pub struct Line {
 }
 
 pub fn flat_line(answer: LineAnswer) -> Line
-    ensures { λ r. ⌜ r ≡ flatLine (lineAnswer answer) ⌝ }
+    ensures { λ r. ⌜ r ≡ flatLine (lineMeaning answer) ⌝ }
 {
     match answer {
         LineAnswer::Line {
@@ -92,7 +92,7 @@ pub struct Place {
 }
 
 pub fn flat_place(answer: PlaceAnswer) -> Place
-    ensures { λ r. ⌜ r ≡ flatPlace (placeAnswer answer) ⌝ }
+    ensures { λ r. ⌜ r ≡ flatPlace (placeMeaning answer) ⌝ }
 {
     match answer {
         PlaceAnswer::At { place, length } => Place {
@@ -156,7 +156,7 @@ fn shown_block(block: BlockRecord) -> Block
 }
 
 pub fn flat_block(answer: BlockAnswer) -> Block
-    ensures { λ r. ⌜ r ≡ flatBlock (blockAnswer answer) ⌝ }
+    ensures { λ r. ⌜ r ≡ flatBlock (blockMeaning answer) ⌝ }
 {
     match answer {
         BlockAnswer::Block(block) => shown_block(block),
@@ -179,7 +179,7 @@ pub struct Value {
 }
 
 pub fn flat_value(answer: ValueAnswer) -> Value
-    ensures { λ r. ⌜ r ≡ flatValue (valueAnswer answer) ⌝ }
+    ensures { λ r. ⌜ r ≡ flatValue (valueMeaning answer) ⌝ }
 {
     match answer {
         ValueAnswer::Value(value) => Value { refusal: 0, value },

@@ -13,11 +13,12 @@ use Rattle.fields.specs.Number.{Bytes, wordAt}
 use Rattle.fields.specs.Answer.{Answer, accepted, refused, accepted-one, next, next-inv, refused-inv}
 use Rattle.fields.specs.Reader.{seenAt}
 use Rattle.fields.specs.Got.{Got, not-read, got}
+use Rattle.fields.specs.Element.{nth}
 use Rattle.dat_format.specs.Header.{Range, Ending, latency, flyrecord, Header, encode}
 use Rattle.dat_format.specs.Layout.{HeaderFits, ranges}
 use Rattle.dat_format.specs.Tests.{inFile, all, allApart}
 use Rattle.dat_format.specs.Decode.{header, checked, decode}
-use Rattle.dat_format.specs.Entries.{entryAt, entries, nth, nth-entry, no-entry}
+use Rattle.dat_format.specs.Entries.{entryAt, entries, nth-entry, no-entry}
 use Rattle.dat_format.specs.Exactness.{exact-header, exactness}
 use Rattle.dat_read.specs.Summary.{kindOf, summary, summarySeen}
 use Rattle.dat_read.specs.Parts.{entries-are}

@@ -8,10 +8,10 @@ use mathlib.Core.List.{List}
 use lib.ListN.{length}
 use Rattle.fields.specs.Number.{Bytes}
 use Rattle.fields.specs.Answer.{Answer, accepted, accepted-one, next, next-inv}
+use Rattle.fields.specs.Element.{nth}
 use Rattle.dat_format.specs.Header.{Range, Header}
 use Rattle.dat_format.specs.Layout.{ranges}
 use Rattle.dat_format.specs.Decode.{decode}
-use Rattle.dat_format.specs.Entries.{nth}
 use Rattle.dat_format.specs.Exactness.{Opens, exactness}
 use Rattle.dat_read.specs.Summary.{summary}
 use Rattle.dat_read.specs.declared.summary.Summary.{Summary}

@@ -4,8 +4,9 @@ use Prim.Native.Nat.{ℕ}
 use mathlib.Core.List.{List, [], _∷_, _++_}
 use Rattle.refusals.specs.Refusal.{notFound}
 use Rattle.fields.specs.Refuses.{Refuses, OneOf, refuses-never, refuses-next, refuses-in}
+use Rattle.fields.specs.Element.{nth-numbers}
 use Rattle.dat_format.specs.Layout.{ranges}
-use Rattle.dat_format.specs.Numbers.{datNumbers, dat-numbers, nth-numbers}
+use Rattle.dat_format.specs.Numbers.{datNumbers, dat-numbers}
 use Rattle.tracedat.specs.Questions.{summed, cpuRange}
 
 -- 1, and 14 to 17

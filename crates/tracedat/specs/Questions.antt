@@ -4,10 +4,10 @@ use Prim.Native.Nat.{ℕ}
 use mathlib.Core.List.{List}
 use lib.ListN.{length}
 use Rattle.fields.specs.Answer.{Answer, accepted, refused, next}
+use Rattle.fields.specs.Element.{nth}
 use Rattle.dat_format.specs.Header.{Range}
 use Rattle.dat_format.specs.Layout.{ranges}
 use Rattle.dat_format.specs.Decode.{decode}
-use Rattle.dat_format.specs.Entries.{nth}
 use Rattle.dat_read.specs.Summary as parts
 use Rattle.dat_read.specs.declared.summary.Summary.{Summary}
 use Rattle.tracedat.specs.Ranges.{rangeOf}
@@ -25,10 +25,10 @@ unfoldable pub cpuRange : ℕ → List ℕ → Answer Range
 cpuRange i b = next (decode b) (λ h. nth (ranges (h .tail .ending)) i)
 
 -- what `SummaryAnswer` and `RangeAnswer` say
-abbrev pub summaryAnswer : SummaryAnswer → Answer Summary
-summaryAnswer (summaryanswer.Accepted s) = accepted s
-summaryAnswer (summaryanswer.Refused n) = refused n
+abbrev pub summaryMeaning : SummaryAnswer → Answer Summary
+summaryMeaning (summaryanswer.Accepted s) = accepted s
+summaryMeaning (summaryanswer.Refused n) = refused n
 
-abbrev pub rangeAnswer : RangeAnswer → Answer Range
-rangeAnswer (rangeanswer.Range a n) = accepted (rangeOf a n)
-rangeAnswer (rangeanswer.Refused n) = refused n
+abbrev pub rangeMeaning : RangeAnswer → Answer Range
+rangeMeaning (rangeanswer.Range a n) = accepted (rangeOf a n)
+rangeMeaning (rangeanswer.Refused n) = refused n

@@ -2,7 +2,7 @@
 mod ranges;
 
 ghost use mathlib.Core.Path.{_≡_};
-ghost use Rattle.tracedat.specs.Questions.{summaryAnswer, summed, rangeAnswer, cpuRange};
+ghost use Rattle.tracedat.specs.Questions.{summaryMeaning, summed, rangeMeaning, cpuRange};
 use dat_read::Walked;
 use dat_read::summary::EndingKind;
 use dat_read::summary::Summary;
@@ -21,7 +21,7 @@ pub enum SummaryAnswer {
 
 // The whole file's header, its CPU ranges with it.
 pub fn summary(file: &[u8]) -> SummaryAnswer
-    ensures { λ r. ⌜ summaryAnswer r ≡ summed (now (file .entry)) ⌝ }
+    ensures { λ r. ⌜ summaryMeaning r ≡ summed (now (file .entry)) ⌝ }
 {
     if LIMIT < file.len() {
         return SummaryAnswer::Refused(TOO_LONG);
@@ -60,7 +60,7 @@ pub enum RangeAnswer {
 
 // CPU i's range, as stored.
 pub fn cpu_range(file: &[u8], i: usize) -> RangeAnswer
-    ensures { λ r. ⌜ rangeAnswer r ≡ cpuRange i (now (file .entry)) ⌝ }
+    ensures { λ r. ⌜ rangeMeaning r ≡ cpuRange i (now (file .entry)) ⌝ }
 {
     match summary(file) {
         SummaryAnswer::Refused(n) => RangeAnswer::Refused(n),

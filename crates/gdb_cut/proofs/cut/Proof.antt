@@ -12,12 +12,12 @@ use Rattle.fields.specs.Number.{Bytes}
 use Rattle.fields.specs.Word.{and-inv}
 use Rattle.fields.specs.Answer.{accepted}
 use Rattle.gdb_format.specs.Decode.{read}
-use Rattle.gdb_read.specs.Steps.{Summary, readingMeaning, summarySaid, readSeen}
+use Rattle.gdb_read.specs.Steps.{Summary, readingMeaning, openedMeaning, readSeen}
 use Rattle.gdb_cut.specs.Selection.{valid, inOrder, meaning}
 use Rattle.gdb_cut.specs.Cut.{cutOf}
 use Rattle.gdb_cut.specs.Kept.{kept}
 use Rattle.fields.specs.Output.{lent-written, lent-full, lent-refused}
-use Rattle.gdb_cut.proofs.Cuts.{cut-invalid, cut-refused, heads-there, start-there, written, cut-gives, written-long}
+use Rattle.gdb_cut.proofs.Cuts.{cut-invalid, cut-refused, heads-there, start-there, cutResult, cut-gives, written-long}
 use Prim.Native.Nat.{ℕ, _+_, _≤_}
 use borrow.Author.Needs.{needs}
 use native.Mathlib.Omega.{arith}
@@ -34,7 +34,7 @@ file-bytes h =
 
 -- the file as it was read
 abbrev said : tie.After-o → Summary
-said h = summarySaid (h .o .given .0 .0)
+said h = openedMeaning (h .o .given .0 .0)
 
 was-read : (h : tie.After-o) → accepted (said h) ≡ readSeen (read (Begun h .args .settings) (Begun h .args .file .now))
 was-read h = at-case readingMeaning (h .o .given .1) (search)
@@ -86,7 +86,7 @@ returns-4 c =
     let l = written-long (a .settings) (a .file .now) (file-bytes h) (said h) (was-read h) (a .selection) in
     lent-written (cutOf (a .settings) (a .selection) (a .file .now)) (a .out .now) _ (w .result) (w .last .1 .1 .1 .1 .0) (cut-gives (a .settings) (a .file .now) (file-bytes h) (said h) (was-read h) (a .selection) (is-good h))
     (w .ensures .0 ∙ sym l) (omega (arith, l, leb-true (needed h) (length (a .out .now)) (sym (at-has-room .has-room .ensures) ∙ not-false _ (at-else2 .if2 .left))))
-    (w .ensures .1 ∙ ap (λ n. written (a .settings) (a .file .now) (file-bytes h) (said h) (was-read h) (a .selection) ++ drop n (a .out .now)) (sym (w .ensures .0)))
+    (w .ensures .1 ∙ ap (λ n. cutResult (a .settings) (a .file .now) (file-bytes h) (said h) (was-read h) (a .selection) ++ drop n (a .out .now)) (sym (w .ensures .0)))
 
 has-room-requires : tie.Need-has-room-requires
 has-room-requires c κs =

@@ -81,7 +81,7 @@ loop-again-2 c =
     let e = kept-no p (meaning (Begun h .args .selection)) (sym (c .before .is-selected .ensures) ∙ c .if1 .left) in
     (p .inside, p .rest, l .inv .2, l .inv .3, l .inv .4, ap (λ x. l .inv .2 ++ x) (sym e) ∙ l .inv .5)
 
--- what is written and what is to come is the whole, and the output is as long as it was
+-- what is cutResult and what is to come is the whole, and the output is as long as it was
 room : (h : tie.At-loop Inv-loop μ-loop)
     → (h .loop .len + length (kept (Begun h .args .format) (meaning (Begun h .args .selection)) (drop (h .loop .at) (Begun h .args .file .now)))
     ≡ Begun h .args .start + length (kept (Begun h .args .format) (meaning (Begun h .args .selection)) (drop (Begun h .args .start) (Begun h .args .file .now))))

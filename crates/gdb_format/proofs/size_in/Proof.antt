@@ -3,7 +3,7 @@
 use mathlib.Core.Path.{_≡_, refl, sym, ap, _∙_}
 use Prim.Native.Nat.{_≤_, _<_, _-_, _+_, _^_}
 use lib.ListN.{length, drop}
-use Rattle.gdb_format.specs.Lines.{decimal}
+use Rattle.gdb_format.specs.Lines.{numeral}
 use Rattle.gdb_format.proofs.DigitLaws.{digits-end, digit-low, digit-high, digit-more, size-short, size-long, size-none, size-some, size-over, ten-more, ten-small}
 use borrow.Author.Needs.{needs}
 use native.Mathlib.Omega.{arith}
@@ -11,7 +11,7 @@ use Rattle.gdb_format.proofs.size_in.Statement.{statement}
 use Rattle.gdb_format.proofs.size_in.Tie as tie
 
 abbrev Inv-loop : tie.InvT-loop
-Inv-loop l n v₀ k₀ v k = (2 ≤ k) × (k ≤ length l) × (decimal v (drop k l) ≡ decimal 0 (drop 2 l)) × (v < 10 ^ (k - 2))
+Inv-loop l n v₀ k₀ v k = (2 ≤ k) × (k ≤ length l) × (numeral v (drop k l) ≡ numeral 0 (drop 2 l)) × (v < 10 ^ (k - 2))
 
 abbrev μ-loop : tie.MeasureT-loop
 μ-loop l n v₀ k₀ v k = length l - k

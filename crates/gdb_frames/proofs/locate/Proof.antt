@@ -1,7 +1,7 @@
 -- `gdb_frames::locate` meets its contract: the whole reading, then the walk over the heads.
 -- Assumes nothing.
 use Rattle.fields.specs.Number.{Bytes}
-use Rattle.gdb_read.specs.Steps.{headMeaning, frameMeaning, readingMeaning, summarySaid}
+use Rattle.gdb_read.specs.Steps.{headMeaning, frameMeaning, readingMeaning, openedMeaning}
 use Rattle.gdb_frames.specs.File.{asked-refused}
 use Rattle.gdb_frames.specs.Located.{frameLocated, located-some, located-none, located-never}
 use Rattle.fields.specs.Given.{bytes-given, at-case}
@@ -25,7 +25,7 @@ returns-2 c =
     let o : tie.After-o = search in
     let a = start .args in
     let g = c .before .head .given in
-    located-some (a .settings) (a .file .now) (file-bytes (search)) (summarySaid (o .o .given .0 .0)) (at-case readingMeaning (o .o .given .1) (search)) (a .n)
+    located-some (a .settings) (a .file .now) (file-bytes (search)) (openedMeaning (o .o .given .0 .0)) (at-case readingMeaning (o .o .given .1) (search)) (a .n)
     (headMeaning (g .0 .0)) (g .0 .1 .0) (at-case frameMeaning (g .1) (search))
 
 returns-3 : tie.Need-returns-3
@@ -33,7 +33,7 @@ returns-3 c =
     let start : tie.Start = search in
     let o : tie.After-o = search in
     let a = start .args in
-    located-none (a .settings) (a .file .now) (file-bytes (search)) (summarySaid (o .o .given .0 .0)) (at-case readingMeaning (o .o .given .1) (search)) (a .n)
+    located-none (a .settings) (a .file .now) (file-bytes (search)) (openedMeaning (o .o .given .0 .0)) (at-case readingMeaning (o .o .given .1) (search)) (a .n)
     (at-case frameMeaning (c .enum-told .given .1) (search))
 
 returns-4 : tie.Need-returns-4
@@ -42,7 +42,7 @@ returns-4 c =
     let o : tie.After-o = search in
     let a = start .args in
     let g = c .before .k2 .given in
-    located-never (a .settings) (a .file .now) (file-bytes (search)) (summarySaid (o .o .given .0 .0)) (at-case readingMeaning (o .o .given .1) (search)) (a .n)
+    located-never (a .settings) (a .file .now) (file-bytes (search)) (openedMeaning (o .o .given .0 .0)) (at-case readingMeaning (o .o .given .1) (search)) (a .n)
     (g .0 .0) (at-case frameMeaning (g .1) (search))
 
 pub locate-spec : {M : Type 1} → statement M

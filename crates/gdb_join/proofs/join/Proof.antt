@@ -7,7 +7,7 @@ use lib.ListN.{length, take, drop, length-drop}
 use lib.Seq.{take-all}
 use Rattle.fields.specs.Number.{Bytes}
 use Rattle.fields.specs.Answer.{accepted}
-use Rattle.gdb_read.specs.Steps.{summarySaid}
+use Rattle.gdb_read.specs.Steps.{openedMeaning}
 use Rattle.gdb_join.specs.Join.{joinOf}
 use Rattle.fields.specs.Output.{lent-written, lent-full, lent-refused}
 use Rattle.gdb_join.specs.Joined.{pairMeaning}
@@ -39,7 +39,7 @@ joins : (h : tie.After-o) → let a = begun h .args in
 joins h =
     let a = begun h .args in
     let g = h .o .given in
-    pair-joins (a .settings) (a .first .now) (a .second .now) (summarySaid (g .0 .0)) (summarySaid (g .0 .1 .0)) (first-bytes (search)) (second-bytes (search))
+    pair-joins (a .settings) (a .first .now) (a .second .now) (openedMeaning (g .0 .0)) (openedMeaning (g .0 .1 .0)) (first-bytes (search)) (second-bytes (search))
     (at-case pairMeaning (g .1) (search))
 
 -- there is room for both

@@ -9,7 +9,7 @@ use Rattle.fields.specs.Lists.{clash}
 use Rattle.fields.specs.Number.{Bytes}
 use Rattle.fields.specs.Answer.{accepted}
 use Rattle.gdb_format.specs.Decode.{read}
-use Rattle.gdb_read.specs.Steps.{readingMeaning, summarySaid, readSeen}
+use Rattle.gdb_read.specs.Steps.{readingMeaning, openedMeaning, readSeen}
 use Rattle.gdb_join.specs.JoinLaws.{join-first, join-second, pair-of-refused, first-short, first-start, second-start, pair-differs, pair-long, pair-sound}
 use borrow.Author.Needs.{needs}
 use native.Mathlib.Omega.{arith}
@@ -30,13 +30,13 @@ second-bytes h =
     bytes-given (Begun h .args .second .now) (at-shared-slice-known2 .shared-slice-known2 .given)
 
 -- the two files as they were read
-one : (h : tie.After-a) → accepted (summarySaid (h .a .given .0 .0)) ≡ readSeen (read (Begun h .args .settings) (Begun h .args .first .now))
+one : (h : tie.After-a) → accepted (openedMeaning (h .a .given .0 .0)) ≡ readSeen (read (Begun h .args .settings) (Begun h .args .first .now))
 one h = at-case readingMeaning (h .a .given .1) (search)
 
 abbrev First : tie.After-b → tie.After-a
 First g = g .before .before .before .before
 
-two : (g : tie.After-b) → accepted (summarySaid (g .b .given .0 .0)) ≡ readSeen (read (Begun (First g) .args .settings) (Begun (First g) .args .second .now))
+two : (g : tie.After-b) → accepted (openedMeaning (g .b .given .0 .0)) ≡ readSeen (read (Begun (First g) .args .settings) (Begun (First g) .args .second .now))
 two g = at-case readingMeaning (g .b .given .1) (search)
 
 returns : tie.Need-returns

@@ -4,7 +4,7 @@ use mathlib.Core.Path.{_≡_, sym, ap, _∙_}
 use Prim.Native.Nat.{ℕ, _+_, _-_, _≤_}
 use mathlib.Core.List.{List}
 use lib.ListN.{length}
-use Rattle.fields.specs.Lists.{flat}
+use Rattle.fields.specs.Lists.{concatMap}
 use Rattle.gdb_read.specs.Steps.{Row, headMeaning, frameMeaning}
 use Rattle.gdb_listing.specs.Text.{lineOf}
 use Rattle.gdb_listing.specs.Rows.{rowsFrom, rows-zero, rows-none, rows-fault, rows-on, counted-end, counted-on}
@@ -16,7 +16,7 @@ use Rattle.gdb_listing.proofs.lines_length.Tie as tie
 
 abbrev Inv-loop : tie.InvT-loop
 Inv-loop format file start frames at₀ rest₀ len₀ at rest len =
-    len + length (flat lineOf (rowsFrom format file rest at)) ≡ length (flat lineOf (rowsFrom format file frames start))
+    len + length (concatMap lineOf (rowsFrom format file rest at)) ≡ length (concatMap lineOf (rowsFrom format file frames start))
 
 abbrev μ-loop : tie.MeasureT-loop
 μ-loop format file start frames at₀ rest₀ len₀ at rest len = rest
@@ -40,12 +40,12 @@ rows h n at = rowsFrom (start h .args .format) (start h .args .file .now) n at
 
 -- all lines
 abbrev total : Loop → ℕ
-total h = length (flat lineOf (rows h (start h .args .frames) (start h .args .start)))
+total h = length (concatMap lineOf (rows h (start h .args .frames) (start h .args .start)))
 
 abbrev more : Head → List Row
 more m = rows (to-loop m) (to-loop m .loop .rest - 1) (m .head .given .0 .1 .0)
 
-met : (m : Head) → to-loop m .loop .len + length (lineOf (headMeaning (m .head .given .0 .0))) + length (flat lineOf (more m)) ≡ total (to-loop m)
+met : (m : Head) → to-loop m .loop .len + length (lineOf (headMeaning (m .head .given .0 .0))) + length (concatMap lineOf (more m)) ≡ total (to-loop m)
 met m =
     let l = to-loop m .loop in
     let a = start (to-loop m) .args in

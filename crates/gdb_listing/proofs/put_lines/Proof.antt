@@ -2,7 +2,7 @@
 -- Assumes nothing.
 use Prim.Native.Nat.{ℕ, _-_}
 use mathlib.Core.List.{List, _++_}
-use Rattle.fields.specs.Lists.{flat}
+use Rattle.fields.specs.Lists.{concatMap}
 use Rattle.gdb_read.specs.Steps.{headMeaning, frameMeaning}
 use Rattle.gdb_listing.specs.Text.{lineOf}
 use Rattle.gdb_listing.specs.Written.{Left, left-all, left-room, left-less}
@@ -15,7 +15,7 @@ use Rattle.gdb_listing.proofs.put_lines.Tie as tie
 
 abbrev Inv-loop : tie.InvT-loop
 Inv-loop format file start frames out₀ begin at₀ left₀ len₀ out at left len =
-    Left out₀ begin (flat lineOf (rowsFrom format file frames start)) out len (flat lineOf (rowsFrom format file left at))
+    Left out₀ begin (concatMap lineOf (rowsFrom format file frames start)) out len (concatMap lineOf (rowsFrom format file left at))
 
 abbrev μ-loop : tie.MeasureT-loop
 μ-loop format file start frames out₀ begin at₀ left₀ len₀ out at left len = left
@@ -53,10 +53,10 @@ abbrev line : tie.After-head Inv-loop μ-loop → List ℕ
 line c = lineOf (headMeaning (c .head .given .0 .0))
 
 abbrev more : tie.After-head Inv-loop μ-loop → List ℕ
-more c = let a = c .before .before .before .before .before .before .before .args in flat lineOf (rowsFrom (a .format) (a .file .now) (c .before .before .before .before .loop .left - 1) (c .head .given .0 .1 .0))
+more c = let a = c .before .before .before .before .before .before .before .args in concatMap lineOf (rowsFrom (a .format) (a .file .now) (c .before .before .before .before .loop .left - 1) (c .head .given .0 .1 .0))
 
 met : (c : tie.After-head Inv-loop μ-loop)
-    → Left (c .before .before .before .before .before .before .before .args .out .now) (c .before .before .before .before .before .before .before .args .begin) (let a = c .before .before .before .before .before .before .before .args in flat lineOf (rowsFrom (a .format) (a .file .now) (a .frames) (a .start)))
+    → Left (c .before .before .before .before .before .before .before .args .out .now) (c .before .before .before .before .before .before .before .args .begin) (let a = c .before .before .before .before .before .before .before .args in concatMap lineOf (rowsFrom (a .format) (a .file .now) (a .frames) (a .start)))
     (c .before .before .before .before .loop .out) (c .before .before .before .before .loop .len) (line c ++ more c)
 met c =
     let at-loop : tie.At-loop Inv-loop μ-loop = search in

@@ -2,7 +2,7 @@
 -- Assumes nothing.
 use mathlib.Core.List.{[]}
 use Rattle.fields.specs.Number.{Bytes}
-use Rattle.gdb_pair.specs.Pair.{pairSaid, pairPlace}
+use Rattle.gdb_pair.specs.Pair.{pairPlaceMeaning, pairPlace}
 use Rattle.gdb_pair.specs.PairLaws.{handed-none, handed-first, handed-second}
 use mathlib.Core.Path.{refl}
 use Rattle.fields.specs.Given.{bytes-given, at-case}
@@ -21,7 +21,7 @@ returns c =
     let start : tie.Start = search in
     let a = start .args in
     handed-none (a .first .now) (a .second .now) [] (pairPlace (a .settings) (a .first .now) (a .second .now) (a .n)) (c .before .enum-told .given .0 .0)
-    (at-case pairSaid (c .before .enum-told .given .1) (search)) refl
+    (at-case pairPlaceMeaning (c .before .enum-told .given .1) (search)) refl
 
 returns-2 : tie.Need-returns-2
 returns-2 c =
@@ -29,7 +29,7 @@ returns-2 c =
     let a = start .args in
     let g = c .before .before .place .given in
     handed-first (a .settings) (a .first .now) (a .second .now) (c .part-of .result .now) (a .n) (g .0 .0, g .0 .1 .0) (first-bytes (search)) (second-bytes (search))
-    (at-case pairSaid (g .1) (search)) (c .part-of .ensures)
+    (at-case pairPlaceMeaning (g .1) (search)) (c .part-of .ensures)
 
 returns-3 : tie.Need-returns-3
 returns-3 c =
@@ -37,7 +37,7 @@ returns-3 c =
     let a = start .args in
     let g = c .before .before .place2 .given in
     handed-second (a .settings) (a .first .now) (a .second .now) (c .part-of2 .result .now) (a .n) (g .0 .0, g .0 .1 .0) (first-bytes (search)) (second-bytes (search))
-    (at-case pairSaid (g .1) (search)) (c .part-of2 .ensures)
+    (at-case pairPlaceMeaning (g .1) (search)) (c .part-of2 .ensures)
 
 pub pair-frame-spec : {M : Type 1} → statement M
 pair-frame-spec =

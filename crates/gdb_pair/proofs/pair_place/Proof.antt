@@ -3,8 +3,8 @@
 use mathlib.Core.Path.{_≡_, sym, ap, _∙_}
 use Rattle.fields.specs.Number.{Bytes}
 use Rattle.fields.specs.Answer.{accepted}
-use Rattle.gdb_read.specs.Steps.{summarySaid}
-use Rattle.gdb_frames.specs.Questions.{placeAnswer}
+use Rattle.gdb_read.specs.Steps.{openedMeaning}
+use Rattle.gdb_frames.specs.Questions.{placeMeaning}
 use Rattle.gdb_join.specs.Joined.{pairMeaning, pairSeen}
 use Rattle.gdb_join.specs.JoinLaws.{pair-refused}
 use Rattle.gdb_pair.specs.Pair.{first, second, onSide}
@@ -22,7 +22,7 @@ second-bytes : (c : tie.After-shared-slice-known2) → Bytes (c .before .before 
 second-bytes c = bytes-given (c .before .before .args .second .now) (c .shared-slice-known2 .given)
 
 -- the pair as it was read
-paired : (h : tie.After-a) → accepted (summarySaid (h .a .given .0 .0), summarySaid (h .a .given .0 .1 .0)) ≡ pairSeen (h .before .before .before .before .before .args .settings) (h .before .before .before .before .before .args .first .now) (h .before .before .before .before .before .args .second .now)
+paired : (h : tie.After-a) → accepted (openedMeaning (h .a .given .0 .0), openedMeaning (h .a .given .0 .1 .0)) ≡ pairSeen (h .before .before .before .before .before .args .settings) (h .before .before .before .before .before .args .first .now) (h .before .before .before .before .before .args .second .now)
 paired h = at-case pairMeaning (h .a .given .1) (search)
 
 returns : tie.Need-returns
@@ -40,7 +40,7 @@ returns-2 c =
     let start : tie.Start = search in
     let h : tie.After-a = search in
     let a = start .args in
-    ap (λ x. onSide first (placeAnswer x)) (sym (c .before .k2 .given .1))
+    ap (λ x. onSide first (placeMeaning x)) (sym (c .before .k2 .given .1))
     ∙ first-told (a .settings) (a .first .now) (a .second .now) (first-bytes (search)) (second-bytes (search)) _ _ (paired h) (a .n) (at-then1 .if1 .taken) _ (at-frame-in .frame-in .ensures)
 
 returns-3 : tie.Need-returns-3
@@ -50,7 +50,7 @@ returns-3 c =
     let start : tie.Start = search in
     let h : tie.After-a = search in
     let a = start .args in
-    ap (λ x. onSide first (placeAnswer x)) (sym (c .before .place .given .1))
+    ap (λ x. onSide first (placeMeaning x)) (sym (c .before .place .given .1))
     ∙ first-told (a .settings) (a .first .now) (a .second .now) (first-bytes (search)) (second-bytes (search)) _ _ (paired h) (a .n) (at-then1 .if1 .taken) _ (at-frame-in .frame-in .ensures)
 
 returns-4 : tie.Need-returns-4
@@ -60,7 +60,7 @@ returns-4 c =
     let start : tie.Start = search in
     let h : tie.After-a = search in
     let a = start .args in
-    ap (λ x. onSide second (placeAnswer x)) (sym (c .before .k3 .given .1))
+    ap (λ x. onSide second (placeMeaning x)) (sym (c .before .k3 .given .1))
     ∙ second-told (a .settings) (a .first .now) (a .second .now) (first-bytes (search)) (second-bytes (search)) _ _ (paired h) (a .n) (omega (arith, at-else1 .if1 .left)) _ (at-frame-in2 .frame-in2 .ensures)
 
 returns-5 : tie.Need-returns-5
@@ -70,7 +70,7 @@ returns-5 c =
     let start : tie.Start = search in
     let h : tie.After-a = search in
     let a = start .args in
-    ap (λ x. onSide second (placeAnswer x)) (sym (c .before .place2 .given .1))
+    ap (λ x. onSide second (placeMeaning x)) (sym (c .before .place2 .given .1))
     ∙ second-told (a .settings) (a .first .now) (a .second .now) (first-bytes (search)) (second-bytes (search)) _ _ (paired h) (a .n) (omega (arith, at-else1 .if1 .left)) _ (at-frame-in2 .frame-in2 .ensures)
 
 pub pair-place-spec : {M : Type 1} → statement M

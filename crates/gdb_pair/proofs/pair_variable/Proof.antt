@@ -3,7 +3,7 @@
 use mathlib.Core.Path.{_≡_, _∙_}
 use Rattle.fields.specs.Number.{Bytes}
 use Rattle.fields.specs.Answer.{accepted}
-use Rattle.gdb_read.specs.Steps.{summarySaid}
+use Rattle.gdb_read.specs.Steps.{openedMeaning}
 use Rattle.gdb_join.specs.Joined.{pairMeaning, pairSeen}
 use Rattle.gdb_join.specs.JoinLaws.{pair-refused}
 use Rattle.gdb_pair.specs.PairLaws.{variable-refused, value-first, value-second}
@@ -20,7 +20,7 @@ second-bytes : (c : tie.After-shared-slice-known2) → Bytes (c .before .before 
 second-bytes c = bytes-given (c .before .before .args .second .now) (c .shared-slice-known2 .given)
 
 -- the pair as it was read
-paired : (h : tie.After-a) → accepted (summarySaid (h .a .given .0 .0), summarySaid (h .a .given .0 .1 .0)) ≡ pairSeen (h .before .before .before .before .before .args .settings) (h .before .before .before .before .before .args .first .now) (h .before .before .before .before .before .args .second .now)
+paired : (h : tie.After-a) → accepted (openedMeaning (h .a .given .0 .0), openedMeaning (h .a .given .0 .1 .0)) ≡ pairSeen (h .before .before .before .before .before .args .settings) (h .before .before .before .before .before .args .first .now) (h .before .before .before .before .before .args .second .now)
 paired h = at-case pairMeaning (h .a .given .1) (search)
 
 returns : tie.Need-returns

@@ -2,7 +2,7 @@
 -- Assumes nothing.
 use Rattle.fields.specs.Number.{Bytes}
 use Rattle.gdb_format.specs.Opening.{sizeIn, openingMeaning}
-use Rattle.gdb_read.specs.Steps.{countMeaning}
+use Rattle.gdb_read.specs.Steps.{framesMeaning}
 use Rattle.gdb_read.proofs.Whole.{too-long, bad-opening, bad-frames, all-read}
 use Rattle.fields.specs.Given.{bytes-given, at-case}
 use borrow.Author.Needs.{needs}
@@ -31,7 +31,7 @@ returns-3 c =
     let e = o .end .given in
     let g = c .before .n2 .given in
     bad-frames (a .format) (a .file .now) (omega arith) (file-bytes (search)) (e .0 .0) (sizeIn (e .0 .1 .0)) (at-case openingMeaning (e .1) (search))
-    (g .0 .0) (at-case countMeaning (g .1) (search))
+    (g .0 .0) (at-case framesMeaning (g .1) (search))
 
 returns-4 : tie.Need-returns-4
 returns-4 c =
@@ -41,7 +41,7 @@ returns-4 c =
     let e = o .end .given in
     let g = c .before .frames .given in
     all-read (a .format) (a .file .now) (omega arith) (file-bytes (search)) (e .0 .0) (sizeIn (e .0 .1 .0)) (at-case openingMeaning (e .1) (search))
-    (g .0 .0) (at-case countMeaning (g .1) (search))
+    (g .0 .0) (at-case framesMeaning (g .1) (search))
 
 pub read-as-spec : {M : Type 1} → statement M
 read-as-spec =

@@ -1,7 +1,7 @@
 -- `gdb_table::planned` meets its contract: the whole reading, then whether there is room. Assumes nothing.
 use mathlib.Core.Path.{sym, ap, subst}
 use Rattle.fields.specs.Number.{Bytes}
-use Rattle.gdb_read.specs.Steps.{readingMeaning, summarySaid}
+use Rattle.gdb_read.specs.Steps.{readingMeaning, openedMeaning}
 use Rattle.gdb_frames.specs.File.{asked-refused}
 use Rattle.fields.specs.Output.{fitting, counted}
 use Rattle.gdb_table.specs.Records.{frameTable}
@@ -22,7 +22,7 @@ returns c =
     let a = start .args in
     let g = o .o .given in
     subst (Planned (a .settings) (a .file .now) (a .room)) (sym (c .plan-of .ensures))
-    (plan-short (a .settings) (a .file .now) (a .room) (file-bytes (search)) (summarySaid (g .0 .0)) (at-case readingMeaning (g .1) (search)) (c .before .if1 .taken))
+    (plan-short (a .settings) (a .file .now) (a .room) (file-bytes (search)) (openedMeaning (g .0 .0)) (at-case readingMeaning (g .1) (search)) (c .before .if1 .taken))
 
 returns-2 : tie.Need-returns-2
 returns-2 c =
@@ -41,7 +41,7 @@ returns-3 c =
     let a = start .args in
     let g = o .o .given in
     subst (Planned (a .settings) (a .file .now) (a .room)) (sym (c .plan-of2 .ensures))
-    (plan-all (a .settings) (a .file .now) (a .room) (file-bytes (search)) (summarySaid (g .0 .0)) (at-case readingMeaning (g .1) (search)) (c .before .if1 .left))
+    (plan-all (a .settings) (a .file .now) (a .room) (file-bytes (search)) (openedMeaning (g .0 .0)) (at-case readingMeaning (g .1) (search)) (c .before .if1 .left))
 
 pub planned-spec : {M : Type 1} → statement M
 planned-spec =

@@ -58,7 +58,7 @@ use Rattle.gdb_format.proofs.Format as Fo
 use Rattle.gdb_format.proofs.Format.Laws as Fo′
 use Rattle.fields.specs.Output.{Lent}
 use Rattle.gdb_frames.specs.Questions.{asked}
-use Rattle.gdb_table.specs.Records.{frameTable, tableAnswer}
+use Rattle.gdb_table.specs.Records.{frameTable, tableMeaning}
 use Rattle.gdb_table.specs.Walk.{stepFrom, Planned}
 use Rattle.gdb_table.specs.Filling.{Filling, starts, within, goes-on, ends}
 use Rattle.gdb_table.specs.declared.FrameRecord.{FrameRecord}
@@ -162,7 +162,7 @@ module _ {M : Type 1} (𝓤 : URA M) (H : Heap 𝓤) (A : Atoms 𝓤) (W : Given
   abbrev av : TableAnswer → Val
   av r = only (EL.vals An.the-type An′.the-laws r)
 
-  exits : (r : TableAnswer) (zs : List FrameRecord) → Is An.the-row r (av r ∷ []) → length zs ≡ length ys → Lent (asked g ss frameTable) ys (tableAnswer r) zs
+  exits : (r : TableAnswer) (zs : List FrameRecord) → Is An.the-row r (av r ∷ []) → length zs ≡ length ys → Lent (asked g ss frameTable) ys (tableMeaning r) zs
       → ent 𝓤 (⋆ 𝓤 H A (‵ (fobs γ (codedHoleys R .code (heres R zs))) ∷ ‵ (fbor κ′ (Held R (length zs) b o γ)) ∷ ‵ (flft κ′ q′) ∷ ‵ (flft κ q) ∷ [])) (Post (av r))
   exits r zs is l e =
       qed W (‵ (fobs γ (codedHoleys R .code (heres R zs))) ∷ ‵ (fbor κ′ (Held R (length zs) b o γ)) ∷ ‵ (flft κ′ q′) ∷ ‵ (flft κ q) ∷ []) ∵

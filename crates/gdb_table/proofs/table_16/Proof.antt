@@ -55,7 +55,7 @@ use Rattle.gdb_format.proofs.Settings as Se
 use Rattle.gdb_format.proofs.Settings.Laws as Se′
 use Rattle.fields.specs.Output.{Lent}
 use Rattle.gdb_frames.specs.Questions.{asked}
-use Rattle.gdb_table.specs.Records.{frameTable, tableAnswer}
+use Rattle.gdb_table.specs.Records.{frameTable, tableMeaning}
 use Rattle.gdb_table.specs.declared.FrameRecord.{FrameRecord}
 use Rattle.gdb_table.specs.declared.TableAnswer.{TableAnswer}
 use Rattle.gdb_table.specs.declared.Table16.{Table16}
@@ -150,7 +150,7 @@ module _ {M : Type 1} (𝓤 : URA M) (H : Heap 𝓤) (A : Atoms 𝓤) (W : Given
   result-typed : (r : TableAnswer) (zs : List FrameRecord) → Is Tb.the-row (result r zs) (tv r zs ∷ []) → Holds (hasTy Tb′.mir (tv r zs)) × WT (tv r zs)
   result-typed r zs is = LL.lawful Tb.the-type Tb′.the-laws 𝓤 H A W .typed (result r zs) _ is .0
 
-  exits : (r : TableAnswer) (zs : List FrameRecord) → Is Tb.the-row (result r zs) (tv r zs ∷ []) → Lent (asked g (x .now) frameTable) old (tableAnswer r) zs → ent 𝓤 (⋆ 𝓤 H A (‵ (flft κ q) ∷ [])) (Post (tv r zs))
+  exits : (r : TableAnswer) (zs : List FrameRecord) → Is Tb.the-row (result r zs) (tv r zs ∷ []) → Lent (asked g (x .now) frameTable) old (tableMeaning r) zs → ent 𝓤 (⋆ 𝓤 H A (‵ (flft κ q) ∷ [])) (Post (tv r zs))
   exits r zs is e =
       qed W (‵ (flft κ q) ∷ []) ∵ suffices ! _ (ends-at 𝓤 H A f.ended stayed (f.clauses 𝓤 H A at-mem run) W bound (tv r zs) (result r zs) (tt, (tt, (tt, tt))) (tt, (tt, (tt, tt)))) $ says ! e $
       nothing ! $ move ! (1 ∷ 0 ∷ []) $ join ! $ frame ! $ nothing ! $ nothing ! $ fjoin ! $ nothing ! $ fjoin ! $ nothing ! $ fjoin ! $ frame ! $
@@ -194,8 +194,8 @@ module _ {M : Type 1} (𝓤 : URA M) (H : Heap 𝓤) (A : Atoms 𝓤) (W : Given
         calls-at ! fm (TableC 𝓤 H A at-mem run) known (to-table l₄ ν δ)
         (and-then ! (load ! (from ! (stop !)) (look ! 17 refl)) (and-then ! (load ! (from ! (stop !)) (look ! 15 refl)) (and-then ! (load ! (from ! (stop !)) (look ! 6 refl)) (no-more !)))) (λ w.
         use1 W (later (some (λ (r : TableAnswer). ((‵ (flft κ q) ⊛ ‵ (flft (ν ∷ []) fullShare) ⊛ ‵ ftrue) ⊛ ‵ (An.the-row .own r (w ∷ []))) ⊛ raw (ensured 𝓤 H A table.ended (table.clauses 𝓤 H A at-mem run) (κ, (ν ∷ [], tt)) (g, (x, (lent l₄ δ, tt))) tt r)))) (id⊢ 𝓤 _) $ await ! tt $ pick ! (λ r.
-        split ! $ move ! (1 ∷ []) $ use1 W (some (λ (zs : Unit {0} × (Unit {0} × (List FrameRecord × Unit {0}))). ‵ (lasts table.ended (κ, (ν ∷ [], tt)) (g, (x, (lent l₄ δ, tt))) zs) ⊛ raw (fact 𝓤 (Lent (asked g (x .now) frameTable) old (tableAnswer r) (zs .1 .1 .0))))) (id⊢ 𝓤 _) $ pick ! (λ zs.
-        split ! $ move ! (1 ∷ []) $ heard ! (Lent (asked g (x .now) frameTable) old (tableAnswer r) (zs .1 .1 .0)) (λ e. fsplit ! $ drop ! $ fsplit ! $ drop ! $ fsplit ! $ fsplit ! $ move ! (1 ∷ []) $ feqL ! (λ l.
+        split ! $ move ! (1 ∷ []) $ use1 W (some (λ (zs : Unit {0} × (Unit {0} × (List FrameRecord × Unit {0}))). ‵ (lasts table.ended (κ, (ν ∷ [], tt)) (g, (x, (lent l₄ δ, tt))) zs) ⊛ raw (fact 𝓤 (Lent (asked g (x .now) frameTable) old (tableMeaning r) (zs .1 .1 .0))))) (id⊢ 𝓤 _) $ pick ! (λ zs.
+        split ! $ move ! (1 ∷ []) $ heard ! (Lent (asked g (x .now) frameTable) old (tableMeaning r) (zs .1 .1 .0)) (λ e. fsplit ! $ drop ! $ fsplit ! $ drop ! $ fsplit ! $ fsplit ! $ move ! (1 ∷ []) $ feqL ! (λ l.
         move ! (2 ∷ []) $ split ! $ move ! (1 ∷ []) $ facts ! An.the-row (Is An.the-row) (shows 𝓤 H A An.the-row) r (w ∷ []) (λ is.
         land ! (from ! (stop !)) (init ! 12 refl (EL.lawful An.the-type An′.the-laws 𝓤 H A W tt .typed r _ is .0)) $
         rewrite ! 12 (λ (u : Val). ‵ (fat fullShare An′.mir l₅ 0 u)) (ap only (EL.tells An.the-type An′.the-laws r _ is)) refl $

@@ -4,7 +4,7 @@ use Rattle.fields.specs.Number.{Bytes}
 use Rattle.fields.specs.Answer.{accepted}
 use Prim.Native.Nat.{_+_, _*_, _≤_}
 use lib.ListN.{length}
-use Rattle.tracedat.specs.Questions.{summaryAnswer, summed}
+use Rattle.tracedat.specs.Questions.{summaryMeaning, summed}
 use Rattle.tracedat.proofs.SummaryLaws.{room, known, no-header, none-in-text, no-cpu, the-range}
 use Rattle.fields.specs.Given.{bytes-given, at-case}
 use borrow.Author.Needs.{needs}
@@ -19,7 +19,7 @@ all-bytes c =
     bytes-given (start .args .file .now) (at-shared-slice-known .shared-slice-known .given)
 
 accepts : (c : tie.After-summary2) → accepted (c .summary2 .given .0 .0) ≡ summed (c .before .before .before .before .args .file .now)
-accepts c = at-case summaryAnswer (c .summary2 .given .1) (search)
+accepts c = at-case summaryMeaning (c .summary2 .given .1) (search)
 
 the-room : (c : tie.After-enum-told2) → c .before .before .before .summary2 .given .0 .0 .body .place + 16 * c .before .before .before .summary2 .given .0 .0 .texts .cpus ≤ length (c .before .before .before .before .before .before .before .args .file .now)
 the-room c =
@@ -38,7 +38,7 @@ returns c =
     let a = start .args in no-cpu (a .file .now) (all-bytes (search)) _ (accepts (search)) (a .i) (c .before .before .enum-told2 .given .1) (omega arith)
 
 returns-2 : tie.Need-returns-2
-returns-2 c = let start : tie.Start = search in let a = start .args in no-header (a .file .now) (a .i) _ (at-case summaryAnswer (c .before .n .given .1) (search))
+returns-2 c = let start : tie.Start = search in let a = start .args in no-header (a .file .now) (a .i) _ (at-case summaryMeaning (c .before .n .given .1) (search))
 
 returns-3 : tie.Need-returns-3
 returns-3 c =

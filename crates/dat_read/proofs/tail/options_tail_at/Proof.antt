@@ -2,7 +2,7 @@
 use mathlib.Core.Path.{_≡_}
 use Rattle.fields.specs.Got.{passed, got}
 use Rattle.dat_format.specs.ExactTail.{exact-options, exact-word, word-length}
-use Rattle.dat_read.specs.Steps.{stepMeaning, wordSaid, wordSeen, wordMeaning}
+use Rattle.dat_read.specs.Steps.{stepMeaning, wordMeaning, wordSeen, wordStepMeaning}
 use Rattle.dat_read.proofs.TailLaws.{Options, WordGot, bad-options, bad-second, with-options}
 use Rattle.fields.specs.Given.{bytes-given, at-case}
 use borrow.Author.Needs.{needs}
@@ -18,14 +18,14 @@ list c =
     passed (exact-options (a .order)) (a .s .now) (bytes-given (a .s .now) (at-shared-slice-known .shared-slice-known .given)) (a .at) (omega arith) (c .end .given .0 .0)
     (at-case stepMeaning (c .end .given .1) (search))
 
-second : (c : tie.After-word) → (g : WordGot (c .before .before .before .before .before .before .before .before .args .s .now) (c .before .before .before .before .end .given .0 .0) (c .word .given .0 .1 .0)) × (g .value ≡ wordSaid (c .word .given .0 .0))
+second : (c : tie.After-word) → (g : WordGot (c .before .before .before .before .before .before .before .before .args .s .now) (c .before .before .before .before .end .given .0 .0) (c .word .given .0 .1 .0)) × (g .value ≡ wordMeaning (c .word .given .0 .0))
 second c =
     let at-end : tie.After-end = search in
     let at-shared-slice-known : tie.After-shared-slice-known = search in
     let start : tie.Start = search in
     let a = start .args in
     got exact-word (a .s .now) (bytes-given (a .s .now) (at-shared-slice-known .shared-slice-known .given)) (at-end .end .given .0 .0) (list (search) .inside) wordSeen _ (c .word .given .0 .1 .0)
-    (at-case wordMeaning (c .word .given .1) (search))
+    (at-case wordStepMeaning (c .word .given .1) (search))
 
 word-at-requires : tie.Need-word-at-requires
 word-at-requires c κs = list (c .before) .inside
@@ -45,7 +45,7 @@ returns-2 : tie.Need-returns-2
 returns-2 c =
     let start : tie.Start = search in
     let a = start .args in
-    bad-second (a .order) (a .cpus) (a .s .now) (a .at) _ (list (search)) _ (at-case wordMeaning (c .before .n2 .given .1) (search))
+    bad-second (a .order) (a .cpus) (a .s .now) (a .at) _ (list (search)) _ (at-case wordStepMeaning (c .before .n2 .given .1) (search))
 
 returns-3 : tie.Need-returns-3
 returns-3 c =

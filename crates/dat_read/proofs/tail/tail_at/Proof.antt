@@ -3,7 +3,7 @@ use mathlib.Core.Path.{ap, _≡_, _∙_}
 use Rattle.fields.specs.Lists.{clash}
 use Rattle.fields.specs.Got.{got}
 use Rattle.dat_format.specs.ExactTail.{exact-word, word-length}
-use Rattle.dat_read.specs.Steps.{wordSaid, wordSeen, wordMeaning}
+use Rattle.dat_read.specs.Steps.{wordMeaning, wordSeen, wordStepMeaning}
 use Rattle.dat_read.proofs.TailLaws.{WordGot, bad-first, has-options, no-options}
 use Rattle.fields.specs.Given.{bytes-given, at-case}
 use borrow.Author.Needs.{needs}
@@ -11,13 +11,13 @@ use native.Mathlib.Omega.{arith}
 use Rattle.dat_read.proofs.tail.tail_at.Statement.{statement}
 use Rattle.dat_read.proofs.tail.tail_at.Tie as tie
 
-first : (c : tie.After-word) → (g : WordGot (c .before .before .before .before .args .s .now) (c .before .before .before .before .args .at) (c .word .given .0 .1 .0)) × (g .value ≡ wordSaid (c .word .given .0 .0))
+first : (c : tie.After-word) → (g : WordGot (c .before .before .before .before .args .s .now) (c .before .before .before .before .args .at) (c .word .given .0 .1 .0)) × (g .value ≡ wordMeaning (c .word .given .0 .0))
 first c =
     let at-shared-slice-known : tie.After-shared-slice-known = search in
     let start : tie.Start = search in
     let a = start .args in
     got exact-word (a .s .now) (bytes-given (a .s .now) (at-shared-slice-known .shared-slice-known .given)) (a .at) (omega arith) wordSeen _ (c .word .given .0 .1 .0)
-    (at-case wordMeaning (c .word .given .1) (search))
+    (at-case wordStepMeaning (c .word .given .1) (search))
 
 options-tail-at-requires : tie.Need-options-tail-at-requires
 options-tail-at-requires c κs = first (search) .0 .inside
@@ -31,21 +31,21 @@ ending-at-requires-2 c κs = first (search) .0 .inside
 returns : tie.Need-returns
 returns c =
     let start : tie.Start = search in
-    let a = start .args in bad-first (a .order) (a .cpus) (a .s .now) (a .at) _ (at-case wordMeaning (c .before .n .given .1) (search))
+    let a = start .args in bad-first (a .order) (a .cpus) (a .s .now) (a .at) _ (at-case wordStepMeaning (c .before .n .given .1) (search))
 
 returns-2 : tie.Need-returns-2
 returns-2 c =
     let start : tie.Start = search in
     let a = start .args in
     let w = first (search) in
-    has-options (a .order) (a .cpus) (a .s .now) (a .at) _ (w .0) (omega (arith, w .0 .place, word-length (w .0 .value))) (w .1 ∙ ap wordSaid (c .before .enum-told .given .1)) _ (c .options-tail-at .ensures)
+    has-options (a .order) (a .cpus) (a .s .now) (a .at) _ (w .0) (omega (arith, w .0 .place, word-length (w .0 .value))) (w .1 ∙ ap wordMeaning (c .before .enum-told .given .1)) _ (c .options-tail-at .ensures)
 
 returns-3 : tie.Need-returns-3
 returns-3 c =
     let start : tie.Start = search in
     let a = start .args in
     let w = first (search) in
-    let e = ap wordSaid (c .before .enum-told2 .given .1) in
+    let e = ap wordMeaning (c .before .enum-told2 .given .1) in
     no-options (a .order) (a .cpus) (a .s .now) (a .at) _ (w .0) (omega (arith, w .0 .place, word-length (w .0 .value))) _ (w .1) (λ f. clash (cc)) _ (c .ending-at .ensures)
 
 returns-4 : tie.Need-returns-4
@@ -53,7 +53,7 @@ returns-4 c =
     let start : tie.Start = search in
     let a = start .args in
     let w = first (search) in
-    let e = ap wordSaid (c .before .enum-told3 .given .1) in
+    let e = ap wordMeaning (c .before .enum-told3 .given .1) in
     no-options (a .order) (a .cpus) (a .s .now) (a .at) _ (w .0) (omega (arith, w .0 .place, word-length (w .0 .value))) _ (w .1) (λ f. clash (cc)) _ (c .ending-at2 .ensures)
 
 pub tail-at-spec : {M : Type 1} → statement M

@@ -45,7 +45,7 @@ use Rattle.gdb_format.proofs.Settings as Se
 use Rattle.gdb_format.proofs.Settings.Laws as Se′
 use Rattle.fields.specs.Output.{Lent}
 use Rattle.gdb_frames.specs.Questions.{asked}
-use Rattle.gdb_table.specs.Records.{frameTable, tableAnswer}
+use Rattle.gdb_table.specs.Records.{frameTable, tableMeaning}
 use Rattle.gdb_table.specs.declared.FrameRecord.{FrameRecord}
 use Rattle.gdb_table.specs.declared.TableAnswer.{TableAnswer}
 use Rattle.gdb_table.proofs.FrameRecord as T
@@ -91,8 +91,8 @@ module _ {M : Type 1} (𝓤 : URA M) (H : Heap 𝓤) (A : Atoms 𝓤) (mem : Mem
   FlatC = tripleOf 𝓤 H A flat.signature (flat.spec 𝓤 H A mem run)
 
   -- of `flat_table`'s `ensured`, the clause alone: it has no `&mut`
-  flat-of : (r : TableAnswer) (k : Count) → ent 𝓤 (ensured 𝓤 H A flat.ended (flat.clauses 𝓤 H A mem run) tt (r, tt) tt k) (fact 𝓤 (k ≡ flatCount (tableAnswer r)))
-  flat-of r k = exE 𝓤 _ (λ ws. snd∗ 𝓤 (sem 𝓤 H A (lasts flat.ended tt (r, tt) ws)) (fact 𝓤 (k ≡ flatCount (tableAnswer r))))
+  flat-of : (r : TableAnswer) (k : Count) → ent 𝓤 (ensured 𝓤 H A flat.ended (flat.clauses 𝓤 H A mem run) tt (r, tt) tt k) (fact 𝓤 (k ≡ flatCount (tableMeaning r)))
+  flat-of r k = exE 𝓤 _ (λ ws. snd∗ 𝓤 (sem 𝓤 H A (lasts flat.ended tt (r, tt) ws)) (fact 𝓤 (k ≡ flatCount (tableMeaning r))))
 
 module _ {M : Type 1} (𝓤 : URA M) (H : Heap 𝓤) (A : Atoms 𝓤) (W : Given 𝓤 H A) (mem : Memory → SProp 𝓤) (run : Routine → Fun 𝓤) (κ κ′ : Lft)
     (bounds : AllOutlive 2 (f.signature .outlives) (κ, (κ′, tt))) (q q′ : Share) (g : Settings) (g-is : Is Se.the-row g (LL.vals Se.the-type Se′.the-laws g))
@@ -166,8 +166,8 @@ module _ {M : Type 1} (𝓤 : URA M) (H : Heap 𝓤) (A : Atoms 𝓤) (W : Given
         calls-at ! fm (TableC 𝓤 H A mem run) known-table to-table
         (and-then ! (load ! (from ! (stop !)) (look ! 11 refl)) (and-then ! (load ! (from ! (stop !)) (look ! 9 refl)) (and-then ! (load ! (from ! (stop !)) (look ! 1 refl)) (no-more !)))) (λ w.
         use1 W (later (some (λ (r : TableAnswer). (Tokens ⊛ ‵ (An.the-row .own r (w ∷ []))) ⊛ raw (ensured 𝓤 H A table.ended (table.clauses 𝓤 H A mem run) (κ, (κ′, tt)) a tt r)))) (id⊢ 𝓤 _) $ await ! tt $ pick ! (λ r.
-        split ! $ move ! (1 ∷ []) $ use1 W (some (λ (zs : Unit {0} × (Unit {0} × (List FrameRecord × Unit {0}))). ‵ (lasts table.ended (κ, (κ′, tt)) a zs) ⊛ raw (fact 𝓤 (Lent (asked g (x .now) frameTable) ys (tableAnswer r) (zs .1 .1 .0))))) (id⊢ 𝓤 _) $ pick ! (λ zs.
-        split ! $ move ! (1 ∷ []) $ heard ! (Lent (asked g (x .now) frameTable) ys (tableAnswer r) (zs .1 .1 .0)) (λ e. fsplit ! $ drop ! $ fsplit ! $ drop ! $ fsplit ! $ fsplit ! $ move ! (1 ∷ []) $ feqL ! (λ l.
+        split ! $ move ! (1 ∷ []) $ use1 W (some (λ (zs : Unit {0} × (Unit {0} × (List FrameRecord × Unit {0}))). ‵ (lasts table.ended (κ, (κ′, tt)) a zs) ⊛ raw (fact 𝓤 (Lent (asked g (x .now) frameTable) ys (tableMeaning r) (zs .1 .1 .0))))) (id⊢ 𝓤 _) $ pick ! (λ zs.
+        split ! $ move ! (1 ∷ []) $ heard ! (Lent (asked g (x .now) frameTable) ys (tableMeaning r) (zs .1 .1 .0)) (λ e. fsplit ! $ drop ! $ fsplit ! $ drop ! $ fsplit ! $ fsplit ! $ move ! (1 ∷ []) $ feqL ! (λ l.
         -- [the last list; true; the tokens and the answer; _6; …]
         move ! (2 ∷ []) $ split ! $ move ! (1 ∷ []) $ facts ! An.the-row (Is An.the-row) (shows 𝓤 H A An.the-row) r (w ∷ []) (λ is.
         land ! (from ! (stop !)) (init ! 7 refl (EL.lawful An.the-type An′.the-laws 𝓤 H A W tt .typed r _ is .0)) $
@@ -176,7 +176,7 @@ module _ {M : Type 1} (𝓤 : URA M) (H : Heap 𝓤) (A : Atoms 𝓤) (W : Given
         move ! (2 ∷ []) $ use1 W (raw (FlatC 𝓤 H A mem run .pre (to-flat r))) (goes-flat r (subst (Is An.the-row r) (EL.tells An.the-type An′.the-laws r _ is) is)) $
         calls-at ! fm (FlatC 𝓤 H A mem run) known-flat (to-flat r) (and-then ! (load ! (from ! (stop !)) (look ! 7 refl)) (no-more !)) (λ u.
         use1 W (later (some (λ (k : Count). (‵ ftrue ⊛ ‵ (Co.the-row .own k (u ∷ []))) ⊛ raw (ensured 𝓤 H A flat.ended (flat.clauses 𝓤 H A mem run) tt (r, tt) tt k)))) (id⊢ 𝓤 _) $ await ! tt $ pick ! (λ k.
-        split ! $ move ! (1 ∷ []) $ use1 W (raw (fact 𝓤 (k ≡ flatCount (tableAnswer r)))) (flat-of 𝓤 H A mem run r k) $ heard ! (k ≡ flatCount (tableAnswer r)) (λ ek.
+        split ! $ move ! (1 ∷ []) $ use1 W (raw (fact 𝓤 (k ≡ flatCount (tableMeaning r)))) (flat-of 𝓤 H A mem run r k) $ heard ! (k ≡ flatCount (tableMeaning r)) (λ ek.
         split ! $ move ! (1 ∷ []) $ facts ! Co.the-row (Is Co.the-row) (shows 𝓤 H A Co.the-row) k (u ∷ []) (λ is′.
         -- [true; the tokens; the last list; _6; …]
         land ! (from ! (stop !)) (init ! 15 refl (LL.lawful Co.the-type Co′.the-laws 𝓤 H A W .typed k _ is′ .0)) $

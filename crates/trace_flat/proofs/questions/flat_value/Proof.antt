@@ -3,7 +3,7 @@ use mathlib.Core.Path.{sym, ap}
 use mir.Syntax.{w64}
 use mir.Facts.{toZ-ofZ}
 use borrow.Author.Needs.{needs}
-use Rattle.gdb_blocks.specs.Search.{valueAnswer}
+use Rattle.gdb_blocks.specs.Search.{valueMeaning}
 use Rattle.trace_flat.specs.Flat.{flatValue}
 use Rattle.trace_flat.proofs.questions.flat_value.Statement.{statement}
 use Rattle.trace_flat.proofs.questions.flat_value.Tie as tie
@@ -16,7 +16,7 @@ returns c =
 
 returns-2 : tie.Need-returns-2
 unfolding flatValue
-returns-2 c = ap (λ x. flatValue (valueAnswer x)) (sym (c .before .answer2 .given .1))
+returns-2 c = ap (λ x. flatValue (valueMeaning x)) (sym (c .before .answer2 .given .1))
 
 pub flat-value-spec : {M : Type 1} → statement M
 flat-value-spec = tie.close (tie.spec (λ c. search needs) (λ c. search needs) returns returns-2)
