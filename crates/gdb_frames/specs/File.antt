@@ -5,7 +5,7 @@ use Prim.Native.Nat.{ℕ, _+_, _≤_}
 use native.Mathlib.Omega.{arith}
 use mathlib.Core.List.{List, [], _∷_, _++_, append-assoc}
 use lib.ListN.{length, take, drop, length-append}
-use lib.Seq.{take-at, drop-at}
+use lib.Seq.{take-at, take-all, drop-at}
 use Rattle.fields.specs.Lists.{concatMap}
 use Rattle.fields.specs.Number.{Bytes}
 use Rattle.fields.specs.Answer.{Answer, accepted, refused, next-inv, refused-inv, accepted-one, accepted-inj}
@@ -17,7 +17,7 @@ use Rattle.gdb_format.specs.ExactLines.{exact-opening}
 use Rattle.gdb_format.specs.Exactness.{decode-encode, read-exactness}
 use Rattle.gdb_format.specs.declared.Settings.{Settings}
 use Rattle.gdb_format.specs.declared.Format.{Format}
-use Rattle.gdb_read.specs.Steps.{Summary, summaryOf, readSeen}
+use Rattle.gdb_read.specs.Steps.{framesEnd, length-encode, Summary, summaryOf, readSeen}
 use Rattle.gdb_frames.specs.Questions.{asked, frameCount}
 
 -- ---- a file and its trace
@@ -46,9 +46,12 @@ opening-front f b t i =
     let o = opening (t .lines) in
     ap (take (length o)) (sym (i .laid-out)) ∙ take-at o (concatMap (putFrame f) (t .frames)) (length o) refl
 
-pub length-encode : (f : Format) (t : Trace) → length (encode f t) ≡ length (opening (t .lines)) + length (concatMap (putFrame f) (t .frames))
-unfolding encode
-length-encode f t = length-append (opening (t .lines)) (concatMap (putFrame f) (t .frames))
+-- and ends with its frames
+pub frames-last : (f : Format) (b : List ℕ) (t : Trace) → File f b t → framesEnd f t ≡ length b
+frames-last f b t i = sym (length-encode f t) ∙ ap length (i .laid-out)
+
+pub frames-front : (f : Format) (b : List ℕ) (t : Trace) → File f b t → take (framesEnd f t) b ≡ b
+frames-front f b t i = take-all (framesEnd f t) b (omega (arith, frames-last f b t i))
 
 -- a file is read as the trace that it holds
 pub decode-file : (f : Format) (b : List ℕ) (t : Trace) → File f b t → decode f b ≡ accepted t
@@ -77,12 +80,20 @@ lines-behind f b t i =
 pub asked-refused : {B : Type 0} (s : Settings) (b : List ℕ) (q : Format → Trace → Answer B) (n : ℕ) → refused n ≡ readSeen (read s b) → refused n ≡ asked s b q
 asked-refused s b q n e = rw (refused-inv n (read s b) (λ r. summaryOf (r .0) (r .1)) e)
 
+-- a file that was read whole, with what the reading told
+pub record WasRead (s : Settings) (b : List ℕ) (m : Summary) : Type 0 where
+  pub bytes : Bytes b
+  pub summed : accepted m ≡ readSeen (read s b)
+
 -- a fact of what was read, told of the answer
 module _ (s : Settings) (b : List ℕ) (h : Bytes b) (m : Summary) (e : accepted m ≡ readSeen (read s b)) where
   pub told : (P : Summary → Type 0) → ((f : Format) (t : Trace) → read s b ≡ accepted (f, t) → File f b t → P (summaryOf f t)) → P m
   told P g =
       let q = summary-inv m (read s b) e in
       subst P (q .2) (g (q .0 .0) (q .0 .1) (q .1) (file-of s b (q .0 .0) (q .0 .1) h (q .1)))
+
+  pub front-told : take (m .end) b ≡ b
+  front-told = told (λ m. take (m .end) b ≡ b) (λ f t r i. frames-front f b t i)
 
   pub count-told : accepted (m .frames) ≡ asked s b frameCount
   count-told = told (λ m. accepted (m .frames) ≡ asked s b frameCount) (λ f t r i. rw r)

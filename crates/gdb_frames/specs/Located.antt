@@ -5,7 +5,7 @@ use mathlib.Core.Option.{Option, none, some}
 use Prim.Native.Nat.{ℕ, zero, suc, _+_, _<_}
 use native.Mathlib.Omega.{arith}
 use mathlib.Core.List.{List, [], _∷_, _++_}
-use lib.ListN.{length, length-append}
+use lib.ListN.{length, take, length-append}
 use borrow.Author.Tests.{le-leb}
 use Rattle.refusals.specs.Refusal.{notFound}
 use Rattle.fields.specs.Lists.{concatMap, Each, clash}
@@ -20,13 +20,13 @@ use Rattle.gdb_format.specs.Opening.{sizeIn}
 use Rattle.gdb_format.specs.ExactFrame.{exact-head}
 use Rattle.gdb_format.specs.declared.Settings.{Settings}
 use Rattle.gdb_format.specs.declared.Format.{Format}
-use Rattle.gdb_read.specs.Steps.{Row, headSeen, frameSeen, headMeaning, Summary, readSeen}
+use Rattle.gdb_read.specs.Steps.{Row, headSeen, frameSeen, headMeaning, framesEnd, Summary, readSeen}
 use Rattle.gdb_frames.specs.Places.{linesAt, framesAt, partNamed}
 use Rattle.gdb_frames.specs.Questions.{asked, frameRow, dataIn, frameData, lineAt, linePlace}
 use Rattle.gdb_frames.specs.Nth.{nthHead, shownNth, nth-placed, nthLine, IsLine, nth-line}
 use Rattle.gdb_frames.specs.declared.LocatedAnswer.{LocatedAnswer}
 use Rattle.gdb_frames.specs.declared.LocatedAnswer.the-variants as located
-use Rattle.gdb_frames.specs.File.{File, frames-behind, start-within, lines-behind, told}
+use Rattle.gdb_frames.specs.File.{File, WasRead, frames-behind, frames-front, start-within, lines-behind, told}
 use Rattle.gdb_frames.specs.PlaceLaws.{line-within, line-is}
 
 -- frame n with what is needed to read its blocks: the format, the register size, and what the frame shows
@@ -57,6 +57,11 @@ head-nth f b t n i =
     (λ r rest g. (exact-head f) .back (headIn f r) rest (g .0, g .1)) (frame-fill f) b
     n (t .frames) (length (opening (t .lines))) (i .fits .frames-fit) (start-within f b t i) (frames-behind f b t i)
 
+-- the walk goes to where the frames end
+pub head-front : (f : Format) (b : List ℕ) (t : Trace) (n : ℕ) → File f b t
+    → nthHead f (take (framesEnd f t) b) n (length (opening (t .lines))) ≡ shownNth (frameSeen f) (putFrame f) (nth (framesAt f t) n)
+head-front f b t n i = ap (λ s. nthHead f s n (length (opening (t .lines)))) (frames-front f b t i) ∙ head-nth f b t n i
+
 module _ {A C : Type 0} (view : ℕ → A → C) (put : A → List ℕ) where
   pub shown-none : (xs : List (ℕ × A)) (n : ℕ) → accepted none ≡ shownNth view put (nth xs n) → nth xs n ≡ refused notFound
   shown-none xs n e = by (nth xs n) refl e
@@ -81,23 +86,23 @@ pub located-row : (s : Settings) (b : List ℕ) (f : Format) (t : Trace) (n a : 
     → accepted (f, (registerSize f (t .lines), frameSeen f a r)) ≡ asked s b (frameLocated n)
 located-row s b f t n a r e g = rw (e, g)
 
-module _ (s : Settings) (b : List ℕ) (h : Bytes b) (m : Summary) (e : accepted m ≡ readSeen (read s b)) (n : ℕ) where
-  pub located-some : (v : Row) (k : ℕ) → accepted (some (v, k)) ≡ nthHead (m .format) b n (m .start) → accepted (m .format, (m .size, v)) ≡ asked s b (frameLocated n)
+module _ {s : Settings} {b : List ℕ} {m : Summary} (w : WasRead s b m) (n : ℕ) where
+  pub located-some : (v : Row) (k : ℕ) → accepted (some (v, k)) ≡ nthHead (m .format) (take (m .end) b) n (m .start) → accepted (m .format, (m .size, v)) ≡ asked s b (frameLocated n)
   located-some v k =
-      told s b h m e (λ m. accepted (some (v, k)) ≡ nthHead (m .format) b n (m .start) → accepted (m .format, (m .size, v)) ≡ asked s b (frameLocated n))
+      told s b (w .bytes) m (w .summed) (λ m. accepted (some (v, k)) ≡ nthHead (m .format) (take (m .end) b) n (m .start) → accepted (m .format, (m .size, v)) ≡ asked s b (frameLocated n))
       (λ f t r i g.
-      let q = shown-some (frameSeen f) (putFrame f) v k (nth (framesAt f t) n) (g ∙ head-nth f b t n i) in
+      let q = shown-some (frameSeen f) (putFrame f) v k (nth (framesAt f t) n) (g ∙ head-front f b t n i) in
       ap (λ z. accepted (f, (registerSize f (t .lines), z))) (q .2) ∙ located-row s b f t n (q .0 .0) (q .0 .1) r (q .1))
 
-  pub located-none : accepted none ≡ nthHead (m .format) b n (m .start) → refused notFound ≡ asked s b (frameLocated n)
+  pub located-none : accepted none ≡ nthHead (m .format) (take (m .end) b) n (m .start) → refused notFound ≡ asked s b (frameLocated n)
   located-none =
-      told s b h m e (λ m. accepted none ≡ nthHead (m .format) b n (m .start) → refused notFound ≡ asked s b (frameLocated n))
-      (λ f t r i g. rw (r, shown-none (frameSeen f) (putFrame f) (framesAt f t) n (g ∙ head-nth f b t n i)))
+      told s b (w .bytes) m (w .summed) (λ m. accepted none ≡ nthHead (m .format) (take (m .end) b) n (m .start) → refused notFound ≡ asked s b (frameLocated n))
+      (λ f t r i g. rw (r, shown-none (frameSeen f) (putFrame f) (framesAt f t) n (g ∙ head-front f b t n i)))
 
-  pub located-never : {X : Type 0} (k : ℕ) → refused k ≡ nthHead (m .format) b n (m .start) → X
+  pub located-never : {X : Type 0} (k : ℕ) → refused k ≡ nthHead (m .format) (take (m .end) b) n (m .start) → X
   located-never {X} k =
-      told s b h m e (λ m. refused k ≡ nthHead (m .format) b n (m .start) → X)
-      (λ f t r i g. shown-never (frameSeen f) (putFrame f) k (nth (framesAt f t) n) (g ∙ head-nth f b t n i))
+      told s b (w .bytes) m (w .summed) (λ m. refused k ≡ nthHead (m .format) (take (m .end) b) n (m .start) → X)
+      (λ f t r i g. shown-never (frameSeen f) (putFrame f) k (nth (framesAt f t) n) (g ∙ head-front f b t n i))
 
 -- the data of frame n are what its row says
 frame-data-in : (x : Answer (Format × Trace)) (n : ℕ)
@@ -122,15 +127,15 @@ pub line-nth : (f : Format) (b : List ℕ) (t : Trace) (j : ℕ) → File f b t
     → nthLine b j 8 ≡ next (nth (linesAt t) j) (λ r. accepted (r .0, length (r .1)))
 line-nth f b t j i = nth-line b (concatMap (putFrame f) (t .frames)) j (t .lines) 8 (lines-each f (t .lines) (i .fits .lines-fit .0)) (lines-behind f b t i)
 
-module _ (s : Settings) (b : List ℕ) (h : Bytes b) (m : Summary) (e : accepted m ≡ readSeen (read s b)) (j : ℕ) where
+module _ {s : Settings} {b : List ℕ} {m : Summary} (w : WasRead s b m) (j : ℕ) where
   pub line-missing : (k : ℕ) → refused k ≡ nthLine b j 8 → refused k ≡ asked s b (lineAt j)
   line-missing k g =
-      told s b h m e (λ m. refused k ≡ asked s b (lineAt j))
+      told s b (w .bytes) m (w .summed) (λ m. refused k ≡ asked s b (lineAt j))
       (λ f t r i. rw (r, refused-inv k (nth (linesAt t) j) (λ r. (r .0, length (r .1))) (g ∙ line-nth f b t j i)))
 
   pub line-found : (p n : ℕ) → accepted (p, n) ≡ nthLine b j 8 → accepted (kindOf (partNamed b (accepted (p, n))), (p, n)) ≡ asked s b (lineAt j)
   line-found p n g =
-      told s b h m e (λ m. accepted (kindOf (partNamed b (accepted (p, n))), (p, n)) ≡ asked s b (lineAt j))
+      told s b (w .bytes) m (w .summed) (λ m. accepted (kindOf (partNamed b (accepted (p, n))), (p, n)) ≡ asked s b (lineAt j))
       (λ f t r i.
       let q = next-inv (nth (linesAt t) j) (λ r. accepted (r .0, length (r .1))) (sym (g ∙ line-nth f b t j i)) in
       line-row f t (q .0 .0) (q .0 .1) p n r i (q .1) (accepted-inj (q .2)))

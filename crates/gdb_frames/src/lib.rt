@@ -80,7 +80,7 @@ pub fn locate(settings: Settings, file: &[u8], n: usize) -> LocatedAnswer
         Reading::Accepted(o) => {
             let format = o.format;
             let size = o.size;
-            match nth_head(format, file, o.start, n) {
+            match nth_head(format, gdb_read::front(file, o.end), o.start, n) {
                 FrameStep::Frame { head, next: _ } => LocatedAnswer::Frame(Located {
                     format,
                     size,

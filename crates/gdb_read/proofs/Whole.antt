@@ -15,14 +15,20 @@ use Rattle.gdb_format.specs.Trace.{Trace, traceOf, opening}
 use Rattle.gdb_format.specs.Lines.{registerSize}
 use Rattle.gdb_format.specs.Decode.{openingLines, frames, trace, decode, read}
 use Rattle.gdb_format.specs.ExactLines.{exact-opening}
+use Rattle.gdb_format.specs.Exactness.{exactness}
 use Rattle.gdb_format.specs.Opening.{openingSeen}
 use Rattle.gdb_format.specs.declared.Settings.{Settings}
 use Rattle.gdb_format.specs.declared.Format.{Format}
-use Rattle.gdb_read.specs.Steps.{framesCounted, summaryIn, readSeen}
+use Rattle.gdb_read.specs.Steps.{framesCounted, framesEnd, length-encode, Summary, summaryOf, summaryIn, readSeen}
 
 pub too-long : (f : Format) (s : List ℕ) → limit < length s → refused tooLong ≡ summaryIn f (decode f s)
 unfolding decode
 too-long f s h = rw (lt-leb (length s) limit h)
+
+summary-is : (f : Format) (t : Trace) {size : Option ℕ} {start end k : ℕ}
+    → registerSize f (t .lines) ≡ size → length (opening (t .lines)) ≡ start → framesEnd f t ≡ end → length (t .frames) ≡ k
+    → _≡_ {A = Answer Summary} (accepted (record { format = f; size = size; start = start; end = end; frames = k })) (accepted (summaryOf f t))
+summary-is f t a b c d = rw (← a, ← b, ← c, ← d)
 
 module _ (f : Format) (s : List ℕ) (short : length s ≤ limit) where
   decode-short : decode f s ≡ trace f s
@@ -50,10 +56,14 @@ module _ (f : Format) (s : List ℕ) (short : length s ≤ limit) where
     pub bad-frames : (n : ℕ) → refused n ≡ framesCounted f size (drop end s) → refused n ≡ summaryIn f (decode f s)
     bad-frames n c = rw (decode-short, frames-at, refused-inv n (frames f size (drop end s)) length c)
 
-    pub all-read : (k : ℕ) → accepted k ≡ framesCounted f size (drop end s) → accepted (record { format = f; size = size; start = end; frames = k }) ≡ summaryIn f (decode f s)
+    pub all-read : (k : ℕ) → accepted k ≡ framesCounted f size (drop end s)
+        → accepted (record { format = f; size = size; start = end; end = length s; frames = k }) ≡ summaryIn f (decode f s)
     all-read k c =
         let q = next-inv (frames f size (drop end s)) (λ fs. accepted (length fs)) (sym c) in
-        rw (decode-short, frames-at, q .1, found .1, found .2, accepted-one (q .2))
+        let t = traceOf (found .0) (q .0) in
+        let d : decode f s ≡ accepted t = decode-short ∙ frames-at ∙ ap (λ x. next x (λ fs. accepted (traceOf (found .0) fs))) (q .1) in
+        let l : framesEnd f t ≡ length s = sym (length-encode f t) ∙ ap length (((exactness f s t b) .0 d) .1) in
+        summary-is f t (found .2) (found .1) l (accepted-one (q .2)) ∙ ap (summaryIn f) (sym d)
 
 -- ---- under the caller's settings
 

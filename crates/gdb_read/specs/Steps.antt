@@ -1,11 +1,13 @@
 -- What the walk's steps and the whole reading answer, in the paper's terms.
--- Assumes nothing: these are definitions.
+-- Assumes nothing.
 use mathlib.Core.Option.{Option, none, some}
+use mathlib.Core.Path.{_≡_}
 use Prim.Native.Nat.{ℕ, _+_}
 use mathlib.Core.List.{List}
-use lib.ListN.{length}
+use lib.ListN.{length, length-append}
+use Rattle.fields.specs.Lists.{concatMap}
 use Rattle.fields.specs.Answer.{Answer, accepted, refused, next}
-use Rattle.gdb_format.specs.Trace.{Frame, Trace, dataOf, opening}
+use Rattle.gdb_format.specs.Trace.{Frame, Trace, dataOf, opening, putFrame, encode}
 use Rattle.gdb_format.specs.Lines.{registerSize}
 use Rattle.gdb_format.specs.Decode.{frames}
 use Rattle.gdb_format.specs.Opening.{sizeIn}
@@ -53,16 +55,32 @@ framesCounted f size b = next (frames f size b) (λ fs. accepted (length fs))
 
 -- ---- the whole file
 
--- what a reading tells: the format, the register size or none, the place where frames start, the number of frames
+-- the place where the frames end
+abbrev pub framesEnd : Format → Trace → ℕ
+framesEnd f t = length (opening (t .lines)) + length (concatMap (putFrame f) (t .frames))
+
+-- it is the file's length
+pub length-encode : (f : Format) (t : Trace) → length (encode f t) ≡ framesEnd f t
+unfolding encode
+length-encode f t = length-append (opening (t .lines)) (concatMap (putFrame f) (t .frames))
+
+-- what a reading tells: the format, the register size or none, the places where frames start and end, the number of frames
 pub record Summary : Type 0 where
   pub format : Format
   pub size : Option ℕ
   pub start : ℕ
+  pub end : ℕ
   pub frames : ℕ
 
 abbrev pub summaryOf : Format → Trace → Summary
 summaryOf f t =
-    record { format = f; size = registerSize f (t .lines); start = length (opening (t .lines)); frames = length (t .frames) }
+    record {
+      format = f;
+      size = registerSize f (t .lines);
+      start = length (opening (t .lines));
+      end = framesEnd f t;
+      frames = length (t .frames);
+    }
 
 abbrev pub summaryIn : Format → Answer Trace → Answer Summary
 summaryIn f x = next x (λ t. accepted (summaryOf f t))
@@ -72,7 +90,7 @@ readSeen x = next x (λ r. accepted (summaryOf (r .0) (r .1)))
 
 -- what `Opened` and `Reading` say
 abbrev pub openedMeaning : Opened → Summary
-openedMeaning o = record { format = o .format; size = sizeIn (o .size); start = o .start; frames = o .frames }
+openedMeaning o = record { format = o .format; size = sizeIn (o .size); start = o .start; end = o .end; frames = o .frames }
 
 abbrev pub readingMeaning : Reading → Answer Summary
 readingMeaning (reading.Accepted o) = accepted (openedMeaning o)

@@ -1,6 +1,6 @@
 // Reading a GDB trace: what frame stands at a place, and the whole file.
 ghost use mathlib.Core.Path.{_≡_};
-ghost use lib.ListN.{drop};
+ghost use lib.ListN.{take, drop};
 ghost use Rattle.fields.specs.Reader.{stepAt};
 ghost use Rattle.gdb_format.specs.Opening.{sizeIn};
 ghost use Rattle.gdb_format.specs.Decode.{frameHead, frame, decode};
@@ -104,17 +104,28 @@ fn frames_from(format: Format, size: RegisterSize, s: &[u8], from: usize) -> Cou
     }
 }
 
-// A file that was read whole: how, where its frames start, the register size that it states, and how many frames it has.
+// A file that was read whole: how, the register size that it states, where its frames start and end, and how many it has.
 pub struct Opened {
     pub format: Format,
     pub size: RegisterSize,
     pub start: usize,
+    pub end: usize,
     pub frames: usize,
 }
 
 pub enum Reading {
     Accepted(Opened),
     Refused(u8),
+}
+
+// The bytes up to `end`, all of them where there are fewer. A walk over heads is given the file up to where its frames end.
+pub fn front(s: &[u8], end: usize) -> &[u8]
+    ensures { λ r. ⌜ now r ≡ take end (now (s .entry)) ⌝ }
+{
+    if s.len() <= end {
+        return s;
+    }
+    &s[..end]
 }
 
 fn read_as(format: Format, file: &[u8]) -> Reading
@@ -131,6 +142,7 @@ fn read_as(format: Format, file: &[u8]) -> Reading
                 format,
                 size,
                 start: end,
+                end: file.len(),
                 frames,
             }),
         },

@@ -1,16 +1,34 @@
--- `gdb_frames::locate` meets its contract: the whole reading, then the walk over the heads.
+-- `gdb_frames::locate` meets its contract: the whole reading, then the walk over the heads to where the frames end.
 -- Assumes nothing.
-use Rattle.fields.specs.Number.{Bytes}
+use mathlib.Core.Path.{_≡_, ap, _∙_}
+use lib.ListN.{take}
 use Rattle.gdb_read.specs.Steps.{headMeaning, frameMeaning, readingMeaning, openedMeaning}
-use Rattle.gdb_frames.specs.File.{asked-refused}
+use Rattle.gdb_frames.specs.File.{WasRead, asked-refused}
+use Rattle.gdb_frames.specs.Nth.{nthHead}
 use Rattle.gdb_frames.specs.Located.{frameLocated, located-some, located-none, located-never}
 use Rattle.fields.specs.Given.{bytes-given, at-case}
 use borrow.Author.Needs.{needs}
 use Rattle.gdb_frames.proofs.locate.Statement.{statement}
 use Rattle.gdb_frames.proofs.locate.Tie as tie
 
-file-bytes : (c : tie.After-shared-slice-known) → Bytes (c .before .args .file .now)
-file-bytes c = bytes-given (c .before .args .file .now) (c .shared-slice-known .given)
+abbrev to-start : tie.After-o → tie.Start
+to-start c = c .before .before .before .before
+
+was-read : (c : tie.After-o) → let a = to-start c .args in WasRead (a .settings) (a .file .now) (openedMeaning (c .o .given .0 .0))
+was-read c =
+    let slice : tie.After-shared-slice-known = search in
+    record { bytes = bytes-given (to-start c .args .file .now) (slice .shared-slice-known .given); summed = at-case readingMeaning (c .o .given .1) (search) }
+
+abbrev to-o : tie.After-nth-head → tie.After-o
+to-o c = c .before .before .before .before
+
+-- the walk is given the file up to where its frames end
+walked : (c : tie.After-nth-head) → let a = to-start (to-o c) .args in let m = openedMeaning (to-o c .o .given .0 .0) in
+    frameMeaning (c .nth-head .result) ≡ nthHead (m .format) (take (m .end) (a .file .now)) (a .n) (m .start)
+walked c =
+    let a = to-start (to-o c) .args in
+    let m = openedMeaning (to-o c .o .given .0 .0) in
+    c .nth-head .ensures ∙ ap (λ s. nthHead (m .format) s (a .n) (m .start)) (c .before .front .ensures)
 
 returns : tie.Need-returns
 returns c =
@@ -22,31 +40,22 @@ returns c =
 returns-2 : tie.Need-returns-2
 returns-2 c =
     let start : tie.Start = search in
-    let o : tie.After-o = search in
-    let a = start .args in
     let g = c .before .head .given in
-    located-some (a .settings) (a .file .now) (file-bytes (search)) (openedMeaning (o .o .given .0 .0)) (at-case readingMeaning (o .o .given .1) (search)) (a .n)
-    (headMeaning (g .0 .0)) (g .0 .1 .0) (at-case frameMeaning (g .1) (search))
+    located-some (was-read (search)) (start .args .n) (headMeaning (g .0 .0)) (g .0 .1 .0) (at-case frameMeaning (g .1) (walked (search)))
 
 returns-3 : tie.Need-returns-3
 returns-3 c =
     let start : tie.Start = search in
-    let o : tie.After-o = search in
-    let a = start .args in
-    located-none (a .settings) (a .file .now) (file-bytes (search)) (openedMeaning (o .o .given .0 .0)) (at-case readingMeaning (o .o .given .1) (search)) (a .n)
-    (at-case frameMeaning (c .enum-told .given .1) (search))
+    located-none (was-read (search)) (start .args .n) (at-case frameMeaning (c .enum-told .given .1) (walked (search)))
 
 returns-4 : tie.Need-returns-4
 returns-4 c =
     let start : tie.Start = search in
-    let o : tie.After-o = search in
-    let a = start .args in
     let g = c .before .k2 .given in
-    located-never (a .settings) (a .file .now) (file-bytes (search)) (openedMeaning (o .o .given .0 .0)) (at-case readingMeaning (o .o .given .1) (search)) (a .n)
-    (g .0 .0) (at-case frameMeaning (g .1) (search))
+    located-never (was-read (search)) (start .args .n) (g .0 .0) (at-case frameMeaning (g .1) (walked (search)))
 
 pub locate-spec : {M : Type 1} → statement M
 locate-spec =
     tie.close
-    (tie.spec (λ c κs. search needs) (λ c. search needs) (λ c. search needs) (λ c κs. search needs) (λ c. search needs) (λ c. search needs)
-    (λ c. search needs) returns returns-2 returns-3 returns-4)
+    (tie.spec (λ c κs. search needs) (λ c. search needs) (λ c. search needs) (λ c κs. search needs) (λ c κs. search needs) (λ c. search needs)
+    (λ c. search needs) (λ c. search needs) returns returns-2 returns-3 returns-4)
