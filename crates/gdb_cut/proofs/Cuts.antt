@@ -25,7 +25,7 @@ use Rattle.gdb_format.specs.ExactFrame.{HeadFits, exact-head, takes-head}
 use Rattle.gdb_format.specs.declared.Settings.{Settings}
 use Rattle.gdb_format.specs.declared.Format.{Format}
 use Rattle.gdb_read.specs.Steps.{Summary, summaryOf, readSeen}
-use Rattle.gdb_frames.specs.File.{File, frames-behind, start-within, opening-front, told}
+use Rattle.gdb_frames.specs.File.{File, WasRead, frames-behind, start-within, opening-front, told-front}
 use Rattle.gdb_cut.specs.Selection.{Selection, selects, picks, meaning, valid}
 use Rattle.gdb_cut.specs.Cut.{filter, cut, cutOf}
 use Rattle.gdb_cut.specs.Kept.{keptOf, kept, Heads}
@@ -79,36 +79,41 @@ module _ (f : Format) (b : List ℕ) (t : Trace) (i : File f b t) where
 
 -- ---- a cut of a file that was read
 
-module _ (s : Settings) (b : List ℕ) (h : Bytes b) (m : Summary) (e : accepted m ≡ readSeen (read s b)) where
-  pub heads-there : Heads (m .format) (drop (m .start) b)
-  heads-there = told s b h m e (λ m. Heads (m .format) (drop (m .start) b)) (λ f t r i. (map (headIn f) (t .frames), heads-in f b t i))
+-- the bytes that the code writes, of a file whose frames start at `start` and fill d from there on
+abbrev pub cutResult : Format → ℕ → List ℕ → lent.Selection → List ℕ
+cutResult f start d c = take start d ++ kept f (meaning c) (drop start d)
 
-  pub start-there : m .start ≤ length b
-  start-there = told s b h m e (λ m. m .start ≤ length b) (λ f t r i. start-within f b t i)
+abbrev pub cutLength : Format → ℕ → List ℕ → lent.Selection → ℕ
+cutLength f start d c = start + length (kept f (meaning c) (drop start d))
 
-  -- the bytes that the code writes
-  abbrev pub cutResult : lent.Selection → List ℕ
-  cutResult c = take (m .start) b ++ kept (m .format) (meaning c) (drop (m .start) b)
+cut-read : (s : Settings) (c : lent.Selection) (b : List ℕ) (f : Format) (t : Trace) → valid c ≡ true → read s b ≡ accepted (f, t)
+    → cutOf s c b ≡ accepted (encode f (cut (meaning c) t))
+unfolding cutOf
+cut-read s c b f t v r = rw (v, r)
 
-  cut-read : (c : lent.Selection) (f : Format) (t : Trace) → valid c ≡ true → read s b ≡ accepted (f, t) → cutOf s c b ≡ accepted (encode f (cut (meaning c) t))
-  unfolding cutOf
-  cut-read c f t v r = rw (v, r)
+-- the walk is given d, the file up to where its frames end
+module _ {s : Settings} {b d : List ℕ} {m : Summary} (w : WasRead s b m) (e : d ≡ take (m .end) b) where
+  pub heads-there : Heads (m .format) (drop (m .start) d)
+  heads-there = told-front w e (λ d m. Heads (m .format) (drop (m .start) d)) (λ f t d r i. (map (headIn f) (t .frames), heads-in f d t i))
 
-  pub cut-gives : (c : lent.Selection) → valid c ≡ true → cutOf s c b ≡ accepted (cutResult c)
+  pub start-there : m .start ≤ length d
+  start-there = told-front w e (λ d m. m .start ≤ length d) (λ f t d r i. start-within f d t i)
+
+  pub cut-gives : (c : lent.Selection) → valid c ≡ true → cutOf s c b ≡ accepted (cutResult (m .format) (m .start) d c)
   unfolding encode
   cut-gives c v =
-      told s b h m e (λ m. cutOf s c b ≡ accepted (take (m .start) b ++ kept (m .format) (meaning c) (drop (m .start) b)))
-      (λ f t r i. cut-read c f t v r ∙ ap accepted (sym (ap₂ (λ x z. x ++ z) (opening-front f b t i) (kept-in f b t i (meaning c)))))
+      told-front w e (λ d m. cutOf s c b ≡ accepted (cutResult (m .format) (m .start) d c))
+      (λ f t d r i. cut-read s c b f t v r ∙ ap accepted (sym (ap₂ (λ x z. x ++ z) (opening-front f d t i) (kept-in f d t i (meaning c)))))
 
-  pub written-long : (c : lent.Selection) → length (cutResult c) ≡ m .start + length (kept (m .format) (meaning c) (drop (m .start) b))
-  written-long c =
-      omega (arith, length-append (take (m .start) b) (kept (m .format) (meaning c) (drop (m .start) b)), length-take-le (m .start) b start-there)
+  pub result-length : (c : lent.Selection) → length (cutResult (m .format) (m .start) d c) ≡ cutLength (m .format) (m .start) d c
+  result-length c =
+      omega (arith, length-append (take (m .start) d) (kept (m .format) (meaning c) (drop (m .start) d)), length-take-le (m .start) d start-there)
 
 -- ---- the room
 
-sifted-less : {A : Type 0} (put : A → List ℕ) (p : A → Bool) (xs : List A) → length (concatMap put (filter p xs)) ≤ length (concatMap put xs)
-sifted-less put p [] = omega arith
-sifted-less put p (x ∷ xs) = by (p x) (sifted-less put p xs)
+filter-less : {A : Type 0} (put : A → List ℕ) (p : A → Bool) (xs : List A) → length (concatMap put (filter p xs)) ≤ length (concatMap put xs)
+filter-less put p [] = omega arith
+filter-less put p (x ∷ xs) = by (p x) (filter-less put p xs)
   where
     by : (t : Bool) → length (concatMap put (filter p xs)) ≤ length (concatMap put xs) → length (concatMap put (cond t (x ∷ filter p xs) (filter p xs))) ≤ length (put x ++ concatMap put xs)
     by true h = omega (arith, h, length-append (put x) (concatMap put (filter p xs)), length-append (put x) (concatMap put xs))
@@ -120,7 +125,7 @@ unfolding kept
 kept-less f c b hb h =
     let e = (forth-toEnd (exact-head f) (shorter 1 (frameHead f) (omega arith) (takes-head f)) b (h .0) hb (h .1)) .1 in
     let k : length (keptOf f c (toEnd (frameHead f) b)) ≡ length (concatMap (putData f) (filter (λ g. selects c (g .0)) (h .0))) = ap (λ x. length (keptOf f c x)) (h .1) in
-    omega (arith, k, sifted-less (putData f) (λ g. selects c (g .0)) (h .0), ap length e)
+    omega (arith, k, filter-less (putData f) (λ g. selects c (g .0)) (h .0), ap length e)
 
 pub room-for-file : (f : Format) (c : Selection) (b : List ℕ) (start room : ℕ) → Bytes b → start ≤ length b → Heads f (drop start b) → length b ≤ room
     → true ≡ leb (start + length (kept f c (drop start b))) room

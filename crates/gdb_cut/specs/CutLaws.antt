@@ -8,13 +8,14 @@ use mathlib.Core.List.{List, [], _∷_, _++_}
 use lib.ListN.{length, length-append}
 use Rattle.fields.specs.Lists.{concatMap, Each}
 use Rattle.fields.specs.Answer.{accepted}
-use Rattle.gdb_format.specs.Trace.{Frame, Trace, traceOf, opening, putFrame, encode}
+use Rattle.gdb_format.specs.Trace.{Frame, Trace, withFrames, opening, putFrame, encode}
 use Rattle.gdb_format.specs.Lines.{registerSize}
 use Rattle.gdb_format.specs.Layout.{FrameFits, Layout}
 use Rattle.gdb_format.specs.Settings.{settingsOf}
 use Rattle.gdb_format.specs.declared.Settings.{Settings}
 use Rattle.gdb_format.specs.declared.Format.{Format}
-use Rattle.gdb_frames.specs.File.{File, length-encode, read-file}
+use Rattle.gdb_read.specs.Steps.{length-encode}
+use Rattle.gdb_frames.specs.File.{File, read-file}
 use Rattle.gdb_cut.specs.Selection.{Selection, inSome, picks, opposite, meaning, valid, against}
 use Rattle.gdb_cut.specs.Cut.{filter, cut, cutOf}
 use Rattle.gdb_cut.specs.declared.Selection as lent
@@ -68,7 +69,7 @@ module _ {A : Type 0} where
 
 -- the frames that a and b both select, in file order
 abbrev pub both : Selection → Selection → Trace → Trace
-both a b t = traceOf (t .lines) (filter (λ r. picks a r && picks b r) (t .frames))
+both a b t = withFrames t (filter (λ r. picks a r && picks b r) (t .frames))
 
 and-comm : (p q : Bool) → p && q ≡ q && p
 and-comm true true = refl
@@ -80,7 +81,7 @@ pub cut-cut : (a b : Selection) (t : Trace) → cut b (cut a t) ≡ both a b t
 cut-cut a b t = rw (filter-filter (picks a) (picks b) (t .frames))
 
 pub cut-comm : (a b : Selection) (t : Trace) → cut b (cut a t) ≡ cut a (cut b t)
-cut-comm a b t = cut-cut a b t ∙ ap (traceOf (t .lines)) (filter-same _ _ (λ r. and-comm (picks a r) (picks b r)) (t .frames)) ∙ sym (cut-cut b a t)
+cut-comm a b t = cut-cut a b t ∙ ap (withFrames t) (filter-same _ _ (λ r. and-comm (picks a r) (picks b r)) (t .frames)) ∙ sym (cut-cut b a t)
 
 beq-not : (k b : Bool) → Bool·beq (not k) b ≡ not (Bool·beq k b)
 beq-not true true = refl
@@ -110,7 +111,7 @@ cut-lengths f c t =
       concatMap-parts (putFrame f) (picks c) (t .frames),
       length-encode f t,
       length-encode f (cut c t),
-      length-encode f (traceOf (t .lines) (filter (λ r. not (picks c r)) (t .frames))),
+      length-encode f (withFrames t (filter (λ r. not (picks c r)) (t .frames))),
     ))
 
 pub layout-cut : (f : Format) (c : Selection) (t : Trace) → Layout f t → Layout f (cut c t)

@@ -170,10 +170,11 @@ pub fn cut(settings: Settings, file: &[u8], selection: Selection, out: &mut [u8]
         Reading::Accepted(o) => {
             let format = o.format;
             let start = o.start;
-            if !has_room(format, file, selection, start, out.len()) {
+            let body = gdb_read::front(file, o.end);
+            if !has_room(format, body, selection, start, out.len()) {
                 return EditAnswer::Refused(NO_ROOM);
             }
-            EditAnswer::Written(write_cut(format, file, selection, start, out))
+            EditAnswer::Written(write_cut(format, body, selection, start, out))
         }
     }
 }

@@ -1,7 +1,7 @@
 -- A file that was accepted, and its trace: where the opening's lines and the frames stand, and what the whole reading's answer tells.
 -- Assumes nothing.
 use mathlib.Core.Path.{_≡_, refl, sym, ap, _∙_, subst}
-use Prim.Native.Nat.{ℕ, _+_, _≤_}
+use Prim.Native.Nat.{ℕ, _+_, _-_, _≤_}
 use native.Mathlib.Omega.{arith}
 use mathlib.Core.List.{List, [], _∷_, _++_, append-assoc}
 use lib.ListN.{length, take, drop, length-append}
@@ -31,6 +31,13 @@ pub frames-behind : (f : Format) (b : List ℕ) (t : Trace) → File f b t → d
 unfolding encode
 frames-behind f b t i =
     ap (drop (length (opening (t .lines)))) (sym (i .laid-out)) ∙ drop-at (opening (t .lines)) (concatMap (putFrame f) (t .frames)) (length (opening (t .lines))) refl
+
+-- from where they start to where they end
+pub frames-part : (f : Format) (b : List ℕ) (t : Trace) → File f b t
+    → take (framesEnd f t - length (opening (t .lines))) (drop (length (opening (t .lines))) b) ≡ concatMap (putFrame f) (t .frames)
+frames-part f b t i =
+    let n = framesEnd f t - length (opening (t .lines)) in
+    ap (take n) (frames-behind f b t i) ∙ take-all n (concatMap (putFrame f) (t .frames)) (omega arith)
 
 pub start-within : (f : Format) (b : List ℕ) (t : Trace) → File f b t → length (opening (t .lines)) ≤ length b
 unfolding encode
@@ -66,6 +73,10 @@ pub same-lines : (f : Format) (ls ms : List (List ℕ)) → LinesFit f ls → Li
 same-lines f ls ms h k e =
     (accepted-inj (sym ((exact-opening f) .back ls [] h) ∙ ap (λ b. openingLines f (b ++ [])) e ∙ (exact-opening f) .back ms [] k)) .0
 
+-- up to where the frames end it is a file of these frames
+pub front-file : (f : Format) (b : List ℕ) (t : Trace) → File f b t → File f (take (framesEnd f t) b) t
+front-file f b t i = subst (λ d. File f d t) (sym (frames-front f b t i)) i
+
 -- what the whole reading's answer tells
 pub summary-inv : (m : Summary) (x : Answer (Format × Trace)) → accepted m ≡ readSeen x → (r : Format × Trace) × (x ≡ accepted r) × (summaryOf (r .0) (r .1) ≡ m)
 summary-inv m x e = let q = next-inv x (λ r. accepted (summaryOf (r .0) (r .1))) (sym e) in (q .0, q .1, accepted-one (q .2))
@@ -92,8 +103,12 @@ module _ (s : Settings) (b : List ℕ) (h : Bytes b) (m : Summary) (e : accepted
       let q = summary-inv m (read s b) e in
       subst P (q .2) (g (q .0 .0) (q .0 .1) (q .1) (file-of s b (q .0 .0) (q .0 .1) h (q .1)))
 
-  pub front-told : take (m .end) b ≡ b
-  front-told = told (λ m. take (m .end) b ≡ b) (λ f t r i. frames-front f b t i)
-
   pub count-told : accepted (m .frames) ≡ asked s b frameCount
   count-told = told (λ m. accepted (m .frames) ≡ asked s b frameCount) (λ f t r i. rw r)
+
+-- a fact of the file up to where its frames end, told of the bytes that a walk is given
+pub told-front : {s : Settings} {b d : List ℕ} {m : Summary} → WasRead s b m → d ≡ take (m .end) b → (P : List ℕ → Summary → Type 0)
+    → ((f : Format) (t : Trace) (d : List ℕ) → read s b ≡ accepted (f, t) → File f d t → P d (summaryOf f t)) → P d m
+told-front {s} {b} {d} {m} w e P g =
+    subst (λ d. P d m) (sym e)
+    (told s b (w .bytes) m (w .summed) (λ m. P (take (m .end) b) m) (λ f t r i. g f t (take (framesEnd f t) b) r (front-file f b t i)))

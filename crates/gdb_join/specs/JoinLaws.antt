@@ -19,9 +19,10 @@ use Rattle.gdb_format.specs.Decode.{read}
 use Rattle.gdb_format.specs.Exactness.{read-exactness}
 use Rattle.gdb_format.specs.declared.Settings.{Settings}
 use Rattle.gdb_format.specs.declared.Format.{Format}
-use Rattle.gdb_read.specs.Steps.{Summary, summaryOf, readSeen}
-use Rattle.gdb_frames.specs.File.{File, file-of, frames-behind, start-within, opening-front, summary-inv}
+use Rattle.gdb_read.specs.Steps.{length-encode, Summary, summaryOf, readSeen}
+use Rattle.gdb_frames.specs.File.{File, WasRead, file-of, front-file, frames-part, frames-last, start-within, opening-front, summary-inv}
 use Rattle.gdb_join.specs.Join.{join, withinLimit, joinOf}
+use Rattle.gdb_join.specs.JoinTraces.{length-join}
 use Rattle.gdb_join.specs.Joined.{pairSeen}
 
 pub refused-same : {A : Type 0} {i j : ℕ} → _≡_ {A = Answer A} (refused i) (refused j) → j ≡ i
@@ -65,15 +66,15 @@ both-read s a b f g t u ha hb p q =
     let r : read s b ≡ accepted (f, u) = q ∙ ap (λ x. accepted (x, u)) i in
     (i, record { first-read = p; second-read = r; first-file = file-of s a f t ha p; second-file = file-of s b f u hb r })
 
-module _ (s : Settings) (a b : List ℕ) (ha : Bytes a) (hb : Bytes b) (m k : Summary) (e : accepted m ≡ readSeen (read s a)) (g : accepted k ≡ readSeen (read s b)) where
-  -- a fact of both traces, told of what the two readings answer
-  pub both-told : (P : Summary → Summary → Type 0) → ((f : Format) (t u : Trace) → Both s a b f t u → P (summaryOf f t) (summaryOf f u)) → P m k
-  both-told P base =
-      let p = summary-inv m (read s a) e in
-      let q = summary-inv k (read s b) g in
-      let r = both-read s a b (p .0 .0) (q .0 .0) (p .0 .1) (q .0 .1) ha hb (p .1) (q .1) in
-      let w : summaryOf (p .0 .0) (q .0 .1) ≡ k = ap (λ f. summaryOf f (q .0 .1)) (sym (r .0)) ∙ q .2 in
-      subst (λ x. P x k) (p .2) (subst (P (summaryOf (p .0 .0) (p .0 .1))) w (base (p .0 .0) (p .0 .1) (q .0 .1) (r .1)))
+-- a fact of both traces, told of what the two readings answer
+pub both-told : {s : Settings} {a b : List ℕ} {m k : Summary} → WasRead s a m → WasRead s b k → (P : Summary → Summary → Type 0)
+    → ((f : Format) (t u : Trace) → Both s a b f t u → P (summaryOf f t) (summaryOf f u)) → P m k
+both-told {s} {a} {b} {m} {k} v w P base =
+    let p = summary-inv m (read s a) (v .summed) in
+    let q = summary-inv k (read s b) (w .summed) in
+    let r = both-read s a b (p .0 .0) (q .0 .0) (p .0 .1) (q .0 .1) (v .bytes) (w .bytes) (p .1) (q .1) in
+    let e : summaryOf (p .0 .0) (q .0 .1) ≡ k = ap (λ f. summaryOf f (q .0 .1)) (sym (r .0)) ∙ q .2 in
+    subst (λ x. P x k) (p .2) (subst (P (summaryOf (p .0 .0) (p .0 .1))) e (base (p .0 .0) (p .0 .1) (q .0 .1) (r .1)))
 
 -- ---- the join of two such files
 
@@ -81,68 +82,78 @@ differ : (x y : List ℕ) (w : Bool) → (x ≡ y → ⊥) → sameBytes x y ≡
 differ x y true h e = absurd (h (same-bytes x y e))
 differ x y false h e = refl
 
-module _ (s : Settings) (a b : List ℕ) (f : Format) (t u : Trace) (i : Both s a b f t u) where
-  pub joined-bytes : encode f (join t u) ≡ a ++ drop (length (opening (u .lines))) b
+-- the first file up to where its frames end, then the second's frames
+abbrev pub joinedBytes : List ℕ → List ℕ → Summary → Summary → List ℕ
+joinedBytes a b m k = take (m .end) a ++ take (k .end - k .start) (drop (k .start) b)
+
+abbrev pub joinedLength : Summary → Summary → ℕ
+joinedLength m k = m .end + (k .end - k .start)
+
+module _ {s : Settings} {a b : List ℕ} {f : Format} {t u : Trace} (i : Both s a b f t u) where
+  pub joined-bytes : encode f (join t u) ≡ joinedBytes a b (summaryOf f t) (summaryOf f u)
   unfolding encode
   joined-bytes =
       ap (λ x. opening (t .lines) ++ x) (concatMap-append (putFrame f) (t .frames) (u .frames))
       ∙ sym (append-assoc (opening (t .lines)) (concatMap (putFrame f) (t .frames)) (concatMap (putFrame f) (u .frames)))
-      ∙ ap₂ (λ x z. x ++ z) (i .first-file .laid-out) (sym (frames-behind f b u (i .second-file)))
+      ∙ ap₂ (λ x z. x ++ z) (front-file f a t (i .first-file) .laid-out) (sym (frames-part f b u (i .second-file)))
 
-  joined-long : length (a ++ drop (length (opening (u .lines))) b) ≡ length a + (length b - length (opening (u .lines)))
-  joined-long = omega (arith, length-append a (drop (length (opening (u .lines))) b), length-drop (length (opening (u .lines))) b)
+  pub joined-long : length (encode f (join t u)) ≡ joinedLength (summaryOf f t) (summaryOf f u)
+  joined-long = omega (arith, length-join f t u)
 
-  open-join : joinOf s a b ≡ cond (sameBytes (opening (t .lines)) (opening (u .lines))) (withinLimit (a ++ drop (length (opening (u .lines))) b)) (refused openingsDiffer)
+  open-join : joinOf s a b ≡ cond (sameBytes (opening (t .lines)) (opening (u .lines))) (withinLimit (encode f (join t u))) (refused openingsDiffer)
   unfolding joinOf
-  open-join =
-      rw (i .first-read, i .second-read)
-      (ap (λ x. cond (sameBytes (opening (t .lines)) (opening (u .lines))) (withinLimit x) (refused openingsDiffer)) joined-bytes)
+  open-join = rw (i .first-read, i .second-read)
 
-  pub join-differs : (take (length (opening (t .lines))) a ≡ take (length (opening (u .lines))) b → ⊥) → joinOf s a b ≡ refused openingsDiffer
+  join-differs : (take (length (opening (t .lines))) a ≡ take (length (opening (u .lines))) b → ⊥) → joinOf s a b ≡ refused openingsDiffer
   join-differs h =
       let n : opening (t .lines) ≡ opening (u .lines) → ⊥ = λ e. h (opening-front f a t (i .first-file) ∙ e ∙ sym (opening-front f b u (i .second-file))) in
       open-join ∙ rw (differ (opening (t .lines)) (opening (u .lines)) _ n refl)
 
   module _ (e : take (length (opening (t .lines))) a ≡ take (length (opening (u .lines))) b) where
-    openings-agree : opening (t .lines) ≡ opening (u .lines)
-    openings-agree = sym (opening-front f a t (i .first-file)) ∙ e ∙ opening-front f b u (i .second-file)
+    same-openings : sameBytes (opening (t .lines)) (opening (u .lines)) ≡ true
+    same-openings =
+        let o : opening (t .lines) ≡ opening (u .lines) = sym (opening-front f a t (i .first-file)) ∙ e ∙ opening-front f b u (i .second-file) in
+        ap (λ x. sameBytes x (opening (u .lines))) o ∙ bytes-same (opening (u .lines))
 
-    pub join-long : limit < length a + (length b - length (opening (u .lines))) → joinOf s a b ≡ refused tooLong
-    join-long h = open-join ∙ rw (openings-agree, bytes-same (opening (u .lines)), lt-leb (length (a ++ drop (length (opening (u .lines))) b)) limit (omega (arith, joined-long)))
+    join-long : limit < joinedLength (summaryOf f t) (summaryOf f u) → joinOf s a b ≡ refused tooLong
+    join-long h = open-join ∙ rw (same-openings, lt-leb (length (encode f (join t u))) limit (omega (arith, joined-long)))
 
-    pub join-gives : length a + (length b - length (opening (u .lines))) ≤ limit → joinOf s a b ≡ accepted (a ++ drop (length (opening (u .lines))) b)
-    join-gives h = open-join ∙ rw (openings-agree, bytes-same (opening (u .lines)), le-leb (length (a ++ drop (length (opening (u .lines))) b)) limit (omega (arith, joined-long)))
+    join-gives : joinedLength (summaryOf f t) (summaryOf f u) ≤ limit → joinOf s a b ≡ accepted (encode f (join t u))
+    join-gives h = open-join ∙ rw (same-openings, le-leb (length (encode f (join t u))) limit (omega (arith, joined-long)))
 
   pub pair-gives : (c : List ℕ) → joinOf s a b ≡ accepted c → accepted (summaryOf f t, summaryOf f u) ≡ pairSeen s a b
   pair-gives c e = rw (e, i .first-read, i .second-read)
 
 -- ---- the same by what the readings answer, as the code tests it
 
-module _ (s : Settings) (a b : List ℕ) (ha : Bytes a) (hb : Bytes b) (m k : Summary) (e : accepted m ≡ readSeen (read s a)) (g : accepted k ≡ readSeen (read s b)) where
-  pub first-short : length a ≤ limit
+module _ {s : Settings} {a b : List ℕ} {m k : Summary} (v : WasRead s a m) (w : WasRead s b k) where
+  pub first-short : m .end ≤ limit
   first-short =
-      both-told s a b ha hb m k e g (λ m k. length a ≤ limit) (λ f t u i. rw (i .first-file .laid-out) at (i .first-file .fits .length-fits))
+      both-told v w (λ m k. m .end ≤ limit) (λ f t u i. omega (arith, i .first-file .fits .length-fits, length-encode f t))
 
   pub first-start : m .start ≤ length a
-  first-start = both-told s a b ha hb m k e g (λ m k. m .start ≤ length a) (λ f t u i. start-within f a t (i .first-file))
+  first-start = both-told v w (λ m k. m .start ≤ length a) (λ f t u i. start-within f a t (i .first-file))
 
   pub second-start : k .start ≤ length b
-  second-start = both-told s a b ha hb m k e g (λ m k. k .start ≤ length b) (λ f t u i. start-within f b u (i .second-file))
+  second-start = both-told v w (λ m k. k .start ≤ length b) (λ f t u i. start-within f b u (i .second-file))
+
+  pub second-frames : k .start ≤ k .end
+  second-frames = both-told v w (λ m k. k .start ≤ k .end) (λ f t u i. omega arith)
 
   pub pair-differs : (take (m .start) a ≡ take (k .start) b → ⊥) → refused openingsDiffer ≡ pairSeen s a b
   pair-differs =
-      both-told s a b ha hb m k e g (λ m k. (take (m .start) a ≡ take (k .start) b → ⊥) → refused openingsDiffer ≡ pairSeen s a b)
-      (λ f t u i h. pair-of-refused s a b openingsDiffer (join-differs s a b f t u i h))
+      both-told v w (λ m k. (take (m .start) a ≡ take (k .start) b → ⊥) → refused openingsDiffer ≡ pairSeen s a b)
+      (λ f t u i h. pair-of-refused s a b openingsDiffer (join-differs i h))
 
-  pub pair-long : take (m .start) a ≡ take (k .start) b → limit < length a + (length b - k .start) → refused tooLong ≡ pairSeen s a b
+  pub pair-long : take (m .start) a ≡ take (k .start) b → limit < joinedLength m k → refused tooLong ≡ pairSeen s a b
   pair-long =
-      both-told s a b ha hb m k e g (λ m k. take (m .start) a ≡ take (k .start) b → limit < length a + (length b - k .start) → refused tooLong ≡ pairSeen s a b)
-      (λ f t u i h l. pair-of-refused s a b tooLong (join-long s a b f t u i h l))
+      both-told v w (λ m k. take (m .start) a ≡ take (k .start) b → limit < joinedLength m k → refused tooLong ≡ pairSeen s a b)
+      (λ f t u i h l. pair-of-refused s a b tooLong (join-long i h l))
 
-  pub pair-sound : take (m .start) a ≡ take (k .start) b → length a + (length b - k .start) ≤ limit → accepted (m, k) ≡ pairSeen s a b
+  pub pair-sound : take (m .start) a ≡ take (k .start) b → joinedLength m k ≤ limit → accepted (m, k) ≡ pairSeen s a b
   pair-sound =
-      both-told s a b ha hb m k e g (λ m k. take (m .start) a ≡ take (k .start) b → length a + (length b - k .start) ≤ limit → accepted (m, k) ≡ pairSeen s a b)
-      (λ f t u i h l. pair-gives s a b f t u i _ (join-gives s a b f t u i h l))
+      both-told v w (λ m k. take (m .start) a ≡ take (k .start) b → joinedLength m k ≤ limit → accepted (m, k) ≡ pairSeen s a b)
+      (λ f t u i h l. pair-gives i _ (join-gives i h l))
 
 -- ---- from the pair's answer to the join's
 
@@ -162,18 +173,31 @@ pub pair-refused : (s : Settings) (a b : List ℕ) (n : ℕ) → Bytes a → Byt
 pair-refused s a b n ha hb e = by (joinOf s a b) refl
   where
     by : (x : Answer (List ℕ)) → joinOf s a b ≡ x → x ≡ refused n
-    by (accepted c) g = let q = join-inv s a b c ha hb g in never (e ∙ sym (pair-gives s a b (q .0) (q .1) (q .2) (q .3) c g))
+    by (accepted c) g = let q = join-inv s a b c ha hb g in never (e ∙ sym (pair-gives (q .3) c g))
     by (refused k) g = ap refused (refused-same (e ∙ sym (pair-of-refused s a b k g)))
 
--- two files whose pair is sound: the join is the first file and the second's frames
-pub pair-joins : (s : Settings) (a b : List ℕ) (m k : Summary) → Bytes a → Bytes b → accepted (m, k) ≡ pairSeen s a b
-    → (joinOf s a b ≡ accepted (a ++ drop (k .start) b)) × (length (a ++ drop (k .start) b) ≡ length a + (length b - k .start)) × (k .start ≤ length b)
+-- two files whose pair is sound: the join is the first file's frames behind its opening, and the second's frames
+pub record Joins (s : Settings) (a b : List ℕ) (m k : Summary) : Type 0 where
+  pub gives : joinOf s a b ≡ accepted (joinedBytes a b m k)
+  pub long : length (joinedBytes a b m k) ≡ joinedLength m k
+  pub first-end : m .end ≤ length a
+  pub second-start : k .start ≤ k .end
+  pub second-end : k .end ≤ length b
+
+joins-both : {s : Settings} {a b : List ℕ} {f : Format} {t u : Trace} → Both s a b f t u → joinOf s a b ≡ accepted (encode f (join t u))
+    → Joins s a b (summaryOf f t) (summaryOf f u)
+joins-both {f = f} {t = t} {u = u} i e =
+    record {
+      gives = e ∙ ap accepted (joined-bytes i);
+      long = ap length (sym (joined-bytes i)) ∙ joined-long i;
+      first-end = omega (arith, frames-last f _ t (i .first-file));
+      second-start = omega arith;
+      second-end = omega (arith, frames-last f _ u (i .second-file));
+    }
+
+pub pair-joins : (s : Settings) (a b : List ℕ) (m k : Summary) → Bytes a → Bytes b → accepted (m, k) ≡ pairSeen s a b → Joins s a b m k
 pair-joins s a b m k ha hb e =
     let p = next-inv (joinOf s a b) _ (sym e) in
     let q = join-inv s a b (p .0) ha hb (p .1) in
-    let i : _≡_ {A = Summary × Summary} (m, k) (summaryOf (q .0) (q .1), summaryOf (q .0) (q .2)) = accepted-one (e ∙ sym (pair-gives s a b (q .0) (q .1) (q .2) (q .3) (p .0) (p .1))) in
-    subst (λ (z : Summary). (joinOf s a b ≡ accepted (a ++ drop (z .start) b)) × (length (a ++ drop (z .start) b) ≡ length a + (length b - z .start)) × (z .start ≤ length b)) (sym (ap (λ (z : Summary × Summary). z .1) i)) (
-      p .1 ∙ ap accepted (sym (q .6) ∙ joined-bytes s a b (q .0) (q .1) (q .2) (q .3)),
-      joined-long s a b (q .0) (q .1) (q .2) (q .3),
-      start-within (q .0) b (q .2) (q .3 .second-file),
-    )
+    let i : _≡_ {A = Summary × Summary} (summaryOf (q .0) (q .1), summaryOf (q .0) (q .2)) (m, k) = accepted-one (pair-gives (q .3) (p .0) (p .1) ∙ sym e) in
+    subst (λ (z : Summary × Summary). Joins s a b (z .0) (z .1)) i (joins-both (q .3) (p .1 ∙ ap accepted (sym (q .6))))

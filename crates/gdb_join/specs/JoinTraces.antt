@@ -16,7 +16,8 @@ use Rattle.gdb_format.specs.Layout.{FrameFits, Layout}
 use Rattle.gdb_format.specs.Settings.{settingsOf}
 use Rattle.gdb_format.specs.declared.Settings.{Settings}
 use Rattle.gdb_format.specs.declared.Format.{Format}
-use Rattle.gdb_frames.specs.File.{File, length-encode, read-file}
+use Rattle.gdb_read.specs.Steps.{length-encode}
+use Rattle.gdb_frames.specs.File.{File, read-file}
 use Rattle.gdb_join.specs.Join.{join, bare, joinOf}
 
 pub join-assoc : (t u v : Trace) → join (join t u) v ≡ join t (join u v)

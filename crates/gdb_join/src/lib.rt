@@ -29,10 +29,12 @@ pub fn joinable(settings: Settings, first: &[u8], second: &[u8]) -> Pair
             Reading::Accepted(b) => {
                 let i = a.start;
                 let j = b.start;
+                let body = a.end;
+                let end = b.end;
                 if !check::same(&first[..i], &second[..j]) {
                     return Pair::Refused(OPENINGS_DIFFER);
                 }
-                if LIMIT - first.len() < second.len() - j {
+                if LIMIT - body < end - j {
                     return Pair::Refused(TOO_LONG);
                 }
                 Pair::Sound {
@@ -51,18 +53,20 @@ pub fn join(settings: Settings, first: &[u8], second: &[u8], out: &mut [u8]) -> 
     match joinable(settings, first, second) {
         Pair::Refused(n) => EditAnswer::Refused(n),
         Pair::Sound {
-            first: _,
-            second: o,
+            first: a,
+            second: b,
         } => {
-            let start = o.start;
-            if out.len() < first.len() {
+            let body = a.end;
+            let start = b.start;
+            let end = b.end;
+            if out.len() < body {
                 return EditAnswer::Refused(NO_ROOM);
             }
-            if out.len() - first.len() < second.len() - start {
+            if out.len() - body < end - start {
                 return EditAnswer::Refused(NO_ROOM);
             }
-            let len = bytes::copy(first, out);
-            EditAnswer::Written(len + bytes::copy(&second[start..], &mut out[len..]))
+            let len = bytes::copy(&first[..body], out);
+            EditAnswer::Written(len + bytes::copy(&second[start..end], &mut out[len..]))
         }
     }
 }

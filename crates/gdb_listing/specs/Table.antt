@@ -26,7 +26,7 @@ use Rattle.gdb_read.specs.Steps.{Row, frameSeen, Summary, readSeen}
 use Rattle.gdb_frames.specs.Places.{placed}
 use Rattle.gdb_frames.specs.Questions.{asked, table}
 use Rattle.gdb_frames.specs.Nth.{nthHead, shownNth}
-use Rattle.gdb_frames.specs.File.{File, file-of, length-encode, asked-refused, told}
+use Rattle.gdb_frames.specs.File.{File, file-of, asked-refused, told}
 use Rattle.gdb_frames.specs.Located.{head-nth}
 use Rattle.gdb_listing.specs.Text.{decimal, ended, lineOf, framesWord, refusedWord, text, listingLimit, little, wholeTable, listed}
 use Rattle.gdb_listing.specs.DecimalLaws.{decimal-long, ended-length, line-short}
