@@ -1,4 +1,4 @@
--- What the earliest of many is, and that `earliest` finds it.
+-- The earliest of many: what `earliest` finds, and what it means that it is the earliest.
 -- Assumes nothing.
 use mathlib.Core.Path.{_≡_, refl, sym, ap, _∙_}
 use mathlib.Core.Logic.{_↔_}
@@ -8,9 +8,17 @@ use mathlib.Core.List.{List, [], _∷_, _++_}
 use lib.ListN.{length}
 use Rattle.refusals.specs.Refusal.{notFound}
 use Rattle.fields.specs.Lists.{Each}
-use Rattle.fields.specs.Answer.{accepted, refused, next, never, accepted-one}
+use Rattle.fields.specs.Answer.{Answer, accepted, refused, next, never, accepted-one}
 use Rattle.fields.specs.Element.{nth}
-use Rattle.gdb_blocks.specs.Search.{orLater, earliest}
+
+abbrev pub orLater : {B : Type 0} → Option B → Answer B → Answer B
+orLater none later = later
+orLater (some y) later = accepted y
+
+-- what `g` finds in the earliest element where it finds something, or 12
+abbrev pub earliest : {A B : Type 0} → (A → Option B) → List A → Answer B
+earliest g [] = refused notFound
+earliest g (x ∷ xs) = let later = earliest g xs in orLater (g x) later
 
 -- y is what `g` finds in the earliest element where it finds something: it finds nothing in those before
 pub record Earliest {A B : Type 0} (g : A → Option B) (xs : List A) (y : B) : Type 0 where

@@ -3,7 +3,7 @@
 use mathlib.Core.Path.{_≡_}
 use mathlib.Core.Bool.{cond}
 use mathlib.Core.Option.{Option, none, some}
-use Prim.Native.Nat.{ℕ}
+use Prim.Native.Nat.{ℕ, _+_, _-_, _%_, _^_}
 use mathlib.Core.List.{List, []}
 use lib.ListN.{length, take, drop}
 use lib.IntN.{ℤ}
@@ -13,7 +13,7 @@ use Rattle.fields.specs.Answer.{Answer, accepted, refused, next}
 use Rattle.fields.specs.Element.{nth}
 use Rattle.gdb_format.specs.Trace.{Block, registers, memory, variable, Frame, Trace}
 use Rattle.gdb_format.specs.declared.Format.{Format}
-use Rattle.gdb_blocks.specs.Search.{earliest, offset}
+use Rattle.gdb_blocks.specs.Earliest.{earliest}
 
 -- ---- a block
 
@@ -22,6 +22,10 @@ abbrev pub registersOf : Block → Option (List ℕ)
 registersOf (registers d) = some d
 registersOf (memory b d) = none
 registersOf (variable m x) = none
+
+-- a minus b, taken modulo 2 ^ 64: how far address a lies into a block at address b
+abbrev pub offset : ℕ → ℕ → ℕ
+offset a b = (a + 2 ^ 64 - b) % 2 ^ 64
 
 -- a block at address b of length L covers a when a minus b, taken modulo 2 ^ 64, is less than L: its bytes from a to its end
 abbrev pub memoryOf : ℕ → Block → Option (List ℕ)
@@ -38,12 +42,12 @@ valueOf v (variable m x) = cond (eqb m v) (some x) none
 -- ---- a frame
 
 -- what `g` finds in the earliest block of frame n in which it finds something, or 12
-abbrev pub heldIn : {B : Type 0} → (Block → Option B) → ℕ → Format → Trace → Answer B
-heldIn g n f t = next (nth (t .frames) n) (λ r. earliest g (r .blocks))
+abbrev pub heldIn : {B : Type 0} → ℕ → (Block → Option B) → Format → Trace → Answer B
+heldIn n g f t = next (nth (t .frames) n) (λ r. earliest g (r .blocks))
 
 -- `g` finds nothing in frame n, or there is no such frame
-abbrev pub Missing : {B : Type 0} → (Block → Option B) → ℕ → Trace → Type 0
-Missing g n t = (r : Frame) → nth (t .frames) n ≡ accepted r → Each (λ x. g x ≡ none) (r .blocks)
+abbrev pub Missing : {B : Type 0} → ℕ → (Block → Option B) → Trace → Type 0
+Missing n g t = (r : Frame) → nth (t .frames) n ≡ accepted r → Each (λ x. g x ≡ none) (r .blocks)
 
 -- block k of frame n, or 12
 abbrev pub blockHeld : ℕ → ℕ → Format → Trace → Answer Block

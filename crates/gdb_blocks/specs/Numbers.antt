@@ -12,7 +12,9 @@ use Rattle.gdb_format.specs.declared.Settings.{Settings}
 use Rattle.gdb_frames.specs.Places.{framesAt, blocksAt}
 use Rattle.gdb_frames.specs.Questions.{asked}
 use Rattle.gdb_frames.specs.Numbers.{questionNumbers, asked-numbers}
-use Rattle.gdb_blocks.specs.Search.{orLater, earliest, registersIn, memoryIn, valueIn, inFrame, nthSeen, blockAt, registersAt, memoryAt, variableAt}
+use Rattle.gdb_blocks.specs.Search.{registersIn, memoryIn, inFrame, nthSeen, blockAt, registersAt, memoryAt, variableAt}
+use Rattle.gdb_blocks.specs.Earliest.{orLater, earliest}
+use Rattle.gdb_blocks.specs.Held.{valueOf}
 
 earliest-numbers : {P : ℕ → Type 0} {A B : Type 0} (g : A → Option B) (xs : List A) → P notFound → Refuses P (earliest g xs)
 earliest-numbers g [] h = refuses-with h
@@ -24,7 +26,7 @@ earliest-numbers {P} {B} g (x ∷ xs) h = by (g x) (earliest-numbers g xs h)
 
 module _ (s : Settings) (b : List ℕ) (n : ℕ) where
   in-frame-numbers : {B : Type 0} {q : List (ℕ × Block) → Answer B}
-      → ((bs : List (ℕ × Block)) → Refuses (OneOf questionNumbers) (q bs)) → Refuses (OneOf questionNumbers) (asked s b (inFrame q n))
+      → ((bs : List (ℕ × Block)) → Refuses (OneOf questionNumbers) (q bs)) → Refuses (OneOf questionNumbers) (asked s b (inFrame n q))
   in-frame-numbers h = asked-numbers s b _ (λ f t. refuses-next (nth-numbers (framesAt f t) n tt) (λ r. h (blocksAt f (r .0) (r .1))))
 
   pub block-record-numbers : (k : ℕ) → Refuses (OneOf questionNumbers) (asked s b (blockAt n k))
@@ -33,8 +35,8 @@ module _ (s : Settings) (b : List ℕ) (n : ℕ) where
   pub registers-place-numbers : Refuses (OneOf questionNumbers) (asked s b (registersAt n))
   registers-place-numbers = in-frame-numbers (λ bs. earliest-numbers registersIn bs tt)
 
-  pub memory-place-numbers : (a : ℕ) → Refuses (OneOf questionNumbers) (asked s b (memoryAt a n))
+  pub memory-place-numbers : (a : ℕ) → Refuses (OneOf questionNumbers) (asked s b (memoryAt n a))
   memory-place-numbers a = in-frame-numbers (λ bs. earliest-numbers (memoryIn a) bs tt)
 
-  pub variable-numbers : (v : ℕ) → Refuses (OneOf questionNumbers) (asked s b (variableAt v n))
-  variable-numbers v = in-frame-numbers (λ bs. earliest-numbers (valueIn v) bs tt)
+  pub variable-numbers : (v : ℕ) → Refuses (OneOf questionNumbers) (asked s b (variableAt n v))
+  variable-numbers v = asked-numbers s b _ (λ f t. refuses-next (nth-numbers (t .frames) n tt) (λ r. earliest-numbers (valueOf v) (r .blocks) tt))

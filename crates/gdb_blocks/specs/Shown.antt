@@ -29,27 +29,23 @@ use Rattle.gdb_frames.specs.PlaceLaws.{placed-there, placed-is, data-behind}
 use Rattle.gdb_blocks.specs.Search.{registersIn, memoryIn, blockAt, registersAt, memoryAt, variableAt}
 use Rattle.gdb_blocks.specs.Earliest.{Earliest, earliest-is, earliest-nth}
 use Rattle.gdb_blocks.specs.Held.{registersOf, memoryOf, valueOf, heldIn, Missing, blockHeld, mapped, named, withLength, orEmpty}
-use Rattle.gdb_blocks.specs.ShownLaws.{registers-named, registers-there, memory-named, memory-there, value-held, named-held, block-held, held-missing}
-use Rattle.gdb_blocks.specs.ShownLaws.{asked-same, asked-mapped, refused-alike, part-same}
+use Rattle.gdb_blocks.specs.ShownLaws.{registers-named, registers-there, memory-named, memory-there, named-held, block-held, held-missing}
+use Rattle.gdb_blocks.specs.ShownLaws.{asked-mapped, refused-alike, part-same}
 
 -- ---- an answer and what the trace holds are one, refusals too
 
 module _ (s : Settings) (b : List ℕ) (h : Bytes b) (n : ℕ) where
   -- the registers of frame n: the bytes of its earliest `R` block
-  pub registers-shown : mapped (named b) (asked s b (registersAt n)) ≡ mapped withLength (asked s b (heldIn registersOf n))
+  pub registers-shown : mapped (named b) (asked s b (registersAt n)) ≡ mapped withLength (asked s b (heldIn n registersOf))
   registers-shown =
-      asked-mapped s b h (registersAt n) (heldIn registersOf n) (named b) withLength
+      asked-mapped s b h (registersAt n) (heldIn n registersOf) (named b) withLength
       (λ f t i. named-held f b t n i registersIn registersOf (registers-named f b))
 
   -- memory at address a: the bytes of the earliest covering block from a to its end
-  pub memory-shown : (a : ℕ) → mapped (named b) (asked s b (memoryAt a n)) ≡ mapped withLength (asked s b (heldIn (memoryOf a) n))
+  pub memory-shown : (a : ℕ) → mapped (named b) (asked s b (memoryAt n a)) ≡ mapped withLength (asked s b (heldIn n (memoryOf a)))
   memory-shown a =
-      asked-mapped s b h (memoryAt a n) (heldIn (memoryOf a) n) (named b) withLength
+      asked-mapped s b h (memoryAt n a) (heldIn n (memoryOf a)) (named b) withLength
       (λ f t i. named-held f b t n i (memoryIn a) (memoryOf a) (memory-named f b a))
-
-  -- variable v: the value in the earliest `V` block with that number
-  pub variable-shown : (v : ℕ) → asked s b (variableAt v n) ≡ asked s b (heldIn (valueOf v) n)
-  variable-shown v = asked-same s b h (variableAt v n) (heldIn (valueOf v) n) (λ f t i. value-held f b t n i v)
 
   -- block k: its kind, with what that kind carries
   pub kind-shown : (k : ℕ) → mapped (λ r. r .1) (asked s b (blockAt n k)) ≡ mapped carriedBy (asked s b (blockHeld n k))
@@ -57,11 +53,11 @@ module _ (s : Settings) (b : List ℕ) (h : Bytes b) (n : ℕ) where
 
   -- ---- the parts that are handed back
 
-  pub registers-handed : (r : List ℕ) → Handed b (asked s b (registersAt n)) r → r ≡ orEmpty (asked s b (heldIn registersOf n))
-  registers-handed r q = q .is-part ∙ part-same b (asked s b (registersAt n)) (asked s b (heldIn registersOf n)) registers-shown
+  pub registers-handed : (r : List ℕ) → Handed b (asked s b (registersAt n)) r → r ≡ orEmpty (asked s b (heldIn n registersOf))
+  registers-handed r q = q .is-part ∙ part-same b (asked s b (registersAt n)) (asked s b (heldIn n registersOf)) registers-shown
 
-  pub memory-handed : (a : ℕ) (r : List ℕ) → Handed b (asked s b (memoryAt a n)) r → r ≡ orEmpty (asked s b (heldIn (memoryOf a) n))
-  memory-handed a r q = q .is-part ∙ part-same b (asked s b (memoryAt a n)) (asked s b (heldIn (memoryOf a) n)) (memory-shown a)
+  pub memory-handed : (a : ℕ) (r : List ℕ) → Handed b (asked s b (memoryAt n a)) r → r ≡ orEmpty (asked s b (heldIn n (memoryOf a)))
+  memory-handed a r q = q .is-part ∙ part-same b (asked s b (memoryAt n a)) (asked s b (heldIn n (memoryOf a))) (memory-shown a)
 
 -- ---- where a place and a length are answered
 
@@ -78,10 +74,10 @@ pub record BytesShown (s : Settings) (b : List ℕ) (n : ℕ) (g : Block → Opt
   pub are-all : length bytes ≡ k
 
 shows : (s : Settings) (b : List ℕ) (n : ℕ) (g : Block → Option (List ℕ)) (p k : ℕ) (x : Answer (ℕ × ℕ))
-    → mapped (named b) x ≡ mapped withLength (asked s b (heldIn g n)) → x ≡ accepted (p, k) → BytesShown s b n g p k
+    → mapped (named b) x ≡ mapped withLength (asked s b (heldIn n g)) → x ≡ accepted (p, k) → BytesShown s b n g p k
 shows s b n g p k x e i =
-    let u = next-inv (asked s b (heldIn g n)) (λ d. accepted (withLength d)) (sym e ∙ ap (mapped (named b)) i) in
-    let v = next-inv (read s b) (λ r. heldIn g n (r .0) (r .1)) (u .1) in
+    let u = next-inv (asked s b (heldIn n g)) (λ d. accepted (withLength d)) (sym e ∙ ap (mapped (named b)) i) in
+    let v = next-inv (read s b) (λ r. heldIn n g (r .0) (r .1)) (u .1) in
     let w = next-inv (nth (v .0 .1 .frames) n) _ (v .2) in
     let j = accepted-inj (u .2) in
     record {
@@ -102,8 +98,8 @@ module _ (s : Settings) (b : List ℕ) (h : Bytes b) (n p k : ℕ) where
   registers-stand = shows s b n registersOf p k (asked s b (registersAt n)) (registers-shown s b h n)
 
   -- where the question about memory at a answers (p, k)
-  pub memory-stand : (a : ℕ) → asked s b (memoryAt a n) ≡ accepted (p, k) → BytesShown s b n (memoryOf a) p k
-  memory-stand a = shows s b n (memoryOf a) p k (asked s b (memoryAt a n)) (memory-shown s b h n a)
+  pub memory-stand : (a : ℕ) → asked s b (memoryAt n a) ≡ accepted (p, k) → BytesShown s b n (memoryOf a) p k
+  memory-stand a = shows s b n (memoryOf a) p k (asked s b (memoryAt n a)) (memory-shown s b h n a)
 
 -- m bytes from byte i of these bytes on. In a register block of 776 bytes, 33 words of 8 and then v0 to v31, v0 is the 16 bytes from byte 264 on.
 pub piece-shown : {s : Settings} {b : List ℕ} {n : ℕ} {g : Block → Option (List ℕ)} {p k : ℕ} (q : BytesShown s b n g p k) (i m : ℕ) → i + m ≤ k
@@ -131,21 +127,21 @@ registers-said {s} {b} {n} h q =
 
 module _ (s : Settings) (b : List ℕ) (h : Bytes b) (n : ℕ) (f : Format) (t : Trace) (e : read s b ≡ accepted (f, t)) where
   missing : {A B C : Type 0} (g : Block → Option B) (x : Answer A) (j : A → C) (k : B → C)
-      → mapped j x ≡ mapped k (asked s b (heldIn g n)) → (x ≡ refused notFound) ↔ Missing g n t
+      → mapped j x ≡ mapped k (asked s b (heldIn n g)) → (x ≡ refused notFound) ↔ Missing n g t
   missing g x j k i =
-      let r : asked s b (heldIn g n) ≡ heldIn g n f t = ap (λ y. next y (λ r. heldIn g n (r .0) (r .1))) e in
-      let q = refused-alike j k x (asked s b (heldIn g n)) notFound i in
+      let r : asked s b (heldIn n g) ≡ heldIn n g f t = ap (λ y. next y (λ r. heldIn n g (r .0) (r .1))) e in
+      let q = refused-alike j k x (asked s b (heldIn n g)) notFound i in
       let m = held-missing g n f t in
       ((λ z. m .0 (sym r ∙ q .0 z)), (λ z. q .1 (r ∙ m .1 z)))
 
-  pub registers-missing : (asked s b (registersAt n) ≡ refused notFound) ↔ Missing registersOf n t
+  pub registers-missing : (asked s b (registersAt n) ≡ refused notFound) ↔ Missing n registersOf t
   registers-missing = missing registersOf (asked s b (registersAt n)) (named b) withLength (registers-shown s b h n)
 
-  pub memory-missing : (a : ℕ) → (asked s b (memoryAt a n) ≡ refused notFound) ↔ Missing (memoryOf a) n t
-  memory-missing a = missing (memoryOf a) (asked s b (memoryAt a n)) (named b) withLength (memory-shown s b h n a)
+  pub memory-missing : (a : ℕ) → (asked s b (memoryAt n a) ≡ refused notFound) ↔ Missing n (memoryOf a) t
+  memory-missing a = missing (memoryOf a) (asked s b (memoryAt n a)) (named b) withLength (memory-shown s b h n a)
 
-  pub variable-missing : (v : ℕ) → (asked s b (variableAt v n) ≡ refused notFound) ↔ Missing (valueOf v) n t
-  variable-missing v = missing (valueOf v) (asked s b (variableAt v n)) (λ x. x) (λ x. x) (ap (mapped (λ x. x)) (variable-shown s b h n v))
+  pub variable-missing : (v : ℕ) → (asked s b (variableAt n v) ≡ refused notFound) ↔ Missing n (valueOf v) t
+  variable-missing v = missing (valueOf v) (asked s b (variableAt n v)) (λ x. x) (λ x. x) refl
 
 -- ---- at the place of a block's record stands the block
 

@@ -25,20 +25,15 @@ use Rattle.gdb_frames.specs.Places.{placed, framesAt, blocksAt, part}
 use Rattle.gdb_frames.specs.Questions.{asked}
 use Rattle.gdb_frames.specs.File.{File, file-of}
 use Rattle.gdb_frames.specs.PlaceLaws.{placed-then, data-behind}
-use Rattle.gdb_blocks.specs.Search.{orLater, earliest, offset, registersIn, memoryIn, valueIn, inFrame, blockAt, variableAt}
-use Rattle.gdb_blocks.specs.Held.{registersOf, memoryOf, valueOf, heldIn, Missing, blockHeld, mapped, named, withLength, orEmpty}
-use Rattle.gdb_blocks.specs.Earliest.{earliest-none, earliest-map}
+use Rattle.gdb_blocks.specs.Search.{registersIn, memoryIn, inFrame, blockAt}
+use Rattle.gdb_blocks.specs.Held.{offset, registersOf, memoryOf, heldIn, Missing, blockHeld, mapped, named, withLength, orEmpty}
+use Rattle.gdb_blocks.specs.Earliest.{orLater, earliest, earliest-none, earliest-map}
 
 -- ---- one block
 
 -- what `place` finds in a block that stands in b is what `g` finds in the block
 abbrev Agrees : {B : Type 0} → Format → List ℕ → (ℕ × Block → Option B) → (Block → Option B) → Type 0
 Agrees f b place g = (at : ℕ) (x : Block) (rest : List ℕ) → drop at b ≡ putBlock f x ++ rest → place (at, x) ≡ g x
-
-value-anywhere : (f : Format) (b : List ℕ) (v : ℕ) → Agrees f b (valueIn v) (valueOf v)
-value-anywhere f b v at (registers d) rest e = refl
-value-anywhere f b v at (memory a d) rest e = refl
-value-anywhere f b v at (variable m x) rest e = refl
 
 -- the bytes that `place` names there are those that the block holds
 abbrev Names : Format → List ℕ → (ℕ × Block → Option (ℕ × ℕ)) → (Block → Option (List ℕ)) → Type 0
@@ -89,18 +84,15 @@ module _ {B : Type 0} (f : Format) (b : List ℕ) (place : ℕ × Block → Opti
       let j : drop (at + length (putBlock f x)) b ≡ concatMap (putBlock f) xs ++ rest = part-behind b at (putBlock f x) (concatMap (putBlock f) xs) rest (sym i) in
       ap₂ orLater (same at x (concatMap (putBlock f) xs ++ rest) i) (earliest-placed xs (at + length (putBlock f x)) rest j)
 
-  found-held : (t : Trace) (n : ℕ) → File f b t → inFrame (earliest place) n f t ≡ heldIn g n f t
+  found-held : (t : Trace) (n : ℕ) → File f b t → inFrame n (earliest place) f t ≡ heldIn n g f t
   found-held t n i =
       next-cong (nth (framesAt f t) n) _ (λ r. earliest g (r .1 .blocks))
       (λ r e. let q = data-behind f b t i n (r .0) (r .1) e in earliest-placed (r .1 .blocks) (r .0 + 6) (q .0) (q .1))
       ∙ placed-then (putFrame f) (t .frames) (length (opening (t .lines))) n (λ r. earliest g (r .blocks))
 
 module _ (f : Format) (b : List ℕ) (t : Trace) (n : ℕ) (i : File f b t) where
-  pub value-held : (v : ℕ) → variableAt v n f t ≡ heldIn (valueOf v) n f t
-  value-held v = found-held f b (valueIn v) (valueOf v) (value-anywhere f b v) t n i
-
   pub named-held : (place : ℕ × Block → Option (ℕ × ℕ)) (g : Block → Option (List ℕ)) → Names f b place g
-      → mapped (named b) (inFrame (earliest place) n f t) ≡ mapped withLength (heldIn g n f t)
+      → mapped (named b) (inFrame n (earliest place) f t) ≡ mapped withLength (heldIn n g f t)
   named-held place g same =
       mapped-earliest (nth (framesAt f t) n) (λ r. blocksAt f (r .0) (r .1)) place (named b)
       ∙ found-held f b (λ r. Option·map (named b) (place r)) (λ x. Option·map withLength (g x)) same t n i
@@ -123,13 +115,13 @@ block-held f t n k =
     ∙ sym (next-assoc (nth (t .frames) n) (λ r. nth (r .blocks) k) (λ x. accepted (carriedBy x)))
 
 -- 12 exactly where the frame has none, or is not there
-pub held-missing : {B : Type 0} (g : Block → Option B) (n : ℕ) (f : Format) (t : Trace) → (heldIn g n f t ≡ refused notFound) ↔ Missing g n t
+pub held-missing : {B : Type 0} (g : Block → Option B) (n : ℕ) (f : Format) (t : Trace) → (heldIn n g f t ≡ refused notFound) ↔ Missing n g t
 held-missing g n f t = (forth, λ m. back (nth (t .frames) n) refl m)
   where
-    forth : heldIn g n f t ≡ refused notFound → Missing g n t
+    forth : heldIn n g f t ≡ refused notFound → Missing n g t
     forth e r i = (earliest-none g (r .blocks)) .0 (ap (λ x. next x (λ r. earliest g (r .blocks))) (sym i) ∙ e)
 
-    back : (x : Answer Frame) → nth (t .frames) n ≡ x → Missing g n t → next x (λ r. earliest g (r .blocks)) ≡ refused notFound
+    back : (x : Answer Frame) → nth (t .frames) n ≡ x → Missing n g t → next x (λ r. earliest g (r .blocks)) ≡ refused notFound
     back (accepted r) i m = (earliest-none g (r .blocks)) .1 (m r i)
     back (refused k) i m = ap refused (nth-refused (t .frames) n k i)
 

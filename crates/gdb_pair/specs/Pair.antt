@@ -61,7 +61,7 @@ pub record HandedPair (a b : List ℕ) (x : Answer (Side × (ℕ × ℕ))) (r : 
 
 -- variable v in frame n of the join
 unfoldable pub pairVariable : Settings → List ℕ → List ℕ → ℕ → ℕ → Answer ℤ
-pairVariable s a b n v = next (joinOf s a b) (λ c. asked s c (variableAt v n))
+pairVariable s a b n v = next (joinOf s a b) (λ c. asked s c (variableAt n v))
 
 -- the data of the frame that a walk over heads found
 abbrev pub placeIn : Option (Row × ℕ) → Answer (ℕ × ℕ)

@@ -203,16 +203,16 @@ handed-second s a b r n q ha hb e g =
 -- ---- variables
 
 module _ (s : Settings) (a b c : List ℕ) (f : Format) (t u : Trace) (i : Joined s a b c f t u) (n v : ℕ) where
-  variable-join : pairVariable s a b n v ≡ heldIn (valueOf v) n f (join t u)
+  variable-join : pairVariable s a b n v ≡ heldIn n (valueOf v) f (join t u)
   unfolding pairVariable
   variable-join = rw (i .gives, i .join-read) (value-held f c (join t u) n (i .join-file) v)
 
-  pub variable-first : n < length (t .frames) → asked s a (variableAt v n) ≡ pairVariable s a b n v
+  pub variable-first : n < length (t .frames) → asked s a (variableAt n v) ≡ pairVariable s a b n v
   variable-first h =
       rw (i .both .first-read) (value-held f a t n (i .both .first-file) v)
       ∙ ap (λ x. next x (λ r. earliest (valueOf v) (r .blocks))) (sym (nth-first (t .frames) (u .frames) n h)) ∙ sym variable-join
 
-  pub variable-second : length (t .frames) ≤ n → asked s b (variableAt v (n - length (t .frames))) ≡ pairVariable s a b n v
+  pub variable-second : length (t .frames) ≤ n → asked s b (variableAt (n - length (t .frames)) v) ≡ pairVariable s a b n v
   variable-second h =
       rw (i .both .second-read) (value-held f b u (n - length (t .frames)) (i .both .second-file) v)
       ∙ ap (λ x. next x (λ r. earliest (valueOf v) (r .blocks))) (sym (nth-second (t .frames) (u .frames) n h)) ∙ sym variable-join
@@ -238,9 +238,9 @@ module _ (s : Settings) (a b : List ℕ) (ha : Bytes a) (hb : Bytes b) (m k : Su
       pair-told s a b ha hb m k e (λ m k. m .frames ≤ n → (x : Answer (ℕ × ℕ)) → x ≡ foundPlace (nthHead (k .format) b (n - m .frames) (k .start)) → onSide second x ≡ pairPlace s a b n)
       (λ c f t u i. place-second s a b c f t u i n)
 
-  pub value-first : (v : ℕ) → n < m .frames → asked s a (variableAt v n) ≡ pairVariable s a b n v
-  value-first v = pair-told s a b ha hb m k e (λ m k. n < m .frames → asked s a (variableAt v n) ≡ pairVariable s a b n v) (λ c f t u i. variable-first s a b c f t u i n v)
+  pub value-first : (v : ℕ) → n < m .frames → asked s a (variableAt n v) ≡ pairVariable s a b n v
+  value-first v = pair-told s a b ha hb m k e (λ m k. n < m .frames → asked s a (variableAt n v) ≡ pairVariable s a b n v) (λ c f t u i. variable-first s a b c f t u i n v)
 
-  pub value-second : (v : ℕ) → m .frames ≤ n → asked s b (variableAt v (n - m .frames)) ≡ pairVariable s a b n v
+  pub value-second : (v : ℕ) → m .frames ≤ n → asked s b (variableAt (n - m .frames) v) ≡ pairVariable s a b n v
   value-second v =
-      pair-told s a b ha hb m k e (λ m k. m .frames ≤ n → asked s b (variableAt v (n - m .frames)) ≡ pairVariable s a b n v) (λ c f t u i. variable-second s a b c f t u i n v)
+      pair-told s a b ha hb m k e (λ m k. m .frames ≤ n → asked s b (variableAt (n - m .frames) v) ≡ pairVariable s a b n v) (λ c f t u i. variable-second s a b c f t u i n v)
