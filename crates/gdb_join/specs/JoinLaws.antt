@@ -176,7 +176,13 @@ pair-refused s a b n ha hb e = by (joinOf s a b) refl
     by (accepted c) g = let q = join-inv s a b c ha hb g in never (e ∙ sym (pair-gives (q .3) c g))
     by (refused k) g = ap refused (refused-same (e ∙ sym (pair-of-refused s a b k g)))
 
--- two files whose pair is sound: the join is the first file's frames behind its opening, and the second's frames
+-- two files whose pair is sound, with what each reading told
+pub record Paired (s : Settings) (a b : List ℕ) (m k : Summary) : Type 0 where
+  pub first-bytes : Bytes a
+  pub second-bytes : Bytes b
+  pub seen : accepted (m, k) ≡ pairSeen s a b
+
+-- the join is the first file's frames behind its opening, and the second's frames
 pub record Joins (s : Settings) (a b : List ℕ) (m k : Summary) : Type 0 where
   pub gives : joinOf s a b ≡ accepted (joinedBytes a b m k)
   pub long : length (joinedBytes a b m k) ≡ joinedLength m k
@@ -195,9 +201,10 @@ joins-both {f = f} {t = t} {u = u} i e =
       second-end = omega (arith, frames-last f _ u (i .second-file));
     }
 
-pub pair-joins : (s : Settings) (a b : List ℕ) (m k : Summary) → Bytes a → Bytes b → accepted (m, k) ≡ pairSeen s a b → Joins s a b m k
-pair-joins s a b m k ha hb e =
-    let p = next-inv (joinOf s a b) _ (sym e) in
-    let q = join-inv s a b (p .0) ha hb (p .1) in
-    let i : _≡_ {A = Summary × Summary} (summaryOf (q .0) (q .1), summaryOf (q .0) (q .2)) (m, k) = accepted-one (pair-gives (q .3) (p .0) (p .1) ∙ sym e) in
+pub pair-joins : {s : Settings} {a b : List ℕ} {m k : Summary} → Paired s a b m k → Joins s a b m k
+pair-joins {s} {a} {b} {m} {k} w =
+    let p = next-inv (joinOf s a b) _ (sym (w .seen)) in
+    let q = join-inv s a b (p .0) (w .first-bytes) (w .second-bytes) (p .1) in
+    let i : _≡_ {A = Summary × Summary} (summaryOf (q .0) (q .1), summaryOf (q .0) (q .2)) (m, k) =
+    accepted-one (pair-gives (q .3) (p .0) (p .1) ∙ sym (w .seen)) in
     subst (λ (z : Summary × Summary). Joins s a b (z .0) (z .1)) i (joins-both (q .3) (p .1 ∙ ap accepted (sym (q .6))))

@@ -17,23 +17,22 @@ use Rattle.gdb_format.specs.Decode.{read}
 use Rattle.gdb_format.specs.Exactness.{read-exactness}
 use Rattle.gdb_format.specs.declared.Settings.{Settings}
 use Rattle.gdb_format.specs.declared.Format.{Format}
-use Rattle.gdb_read.specs.Steps.{Summary, summaryOf, frameSeen}
+use Rattle.gdb_read.specs.Steps.{framesEnd, Summary, summaryOf, frameSeen}
 use Rattle.gdb_frames.specs.Places.{framesAt, part, partNamed}
 use Rattle.gdb_frames.specs.Questions.{asked, dataIn, frameData}
 use Rattle.gdb_frames.specs.Nth.{nthHead, shownNth}
 use Rattle.gdb_frames.specs.File.{File}
 use Rattle.gdb_frames.specs.PlaceLaws.{placed-nth, placed-is, InFile, handed, frame-within, data-there}
-use Rattle.gdb_frames.specs.Located.{head-nth, shown-none}
-use Rattle.gdb_blocks.specs.Search.{earliest, variableAt}
+use Rattle.gdb_frames.specs.Located.{head-front, shown-none}
+use Rattle.gdb_blocks.specs.Earliest.{earliest}
+use Rattle.gdb_blocks.specs.Search.{variableAt}
 use Rattle.gdb_blocks.specs.Held.{valueOf, heldIn}
-use Rattle.gdb_blocks.specs.ShownLaws.{value-held}
 use Rattle.gdb_join.specs.Join.{join, joinOf}
-use Rattle.gdb_join.specs.Joined.{pairSeen}
 use Rattle.gdb_join.specs.JoinTraces.{layout-join}
 use Rattle.gdb_frames.specs.File.{read-file, same-lines}
 use Rattle.fields.specs.Word.{same-bytes}
 use Rattle.fields.specs.Element.{nth}
-use Rattle.gdb_join.specs.JoinLaws.{refused-same, Both, join-inv, pair-gives}
+use Rattle.gdb_join.specs.JoinLaws.{refused-same, Both, Paired, join-inv, pair-gives}
 use Rattle.gdb_pair.specs.Pair.{Side, first, second, onSide, sided, pairPlace, pairPart, HandedPair, pairVariable, foundPlace}
 
 -- ---- a pair that can be joined
@@ -57,14 +56,15 @@ joined s a b c ha hb e =
     let ok : settingsOf s ≡ accepted f = ((read-exactness s a f t ha) .0 (i .first-read)) .0 in
     (f, t, u, record { both = i; gives = e; join-file = j; join-read = read-file s f c (join t u) ok j })
 
-module _ (s : Settings) (a b : List ℕ) (ha : Bytes a) (hb : Bytes b) (m k : Summary) (e : accepted (m, k) ≡ pairSeen s a b) where
-  -- a fact of a pair that can be joined, told of what the pair's answer says
-  pub pair-told : (P : Summary → Summary → Type 0) → ((c : List ℕ) (f : Format) (t u : Trace) → Joined s a b c f t u → P (summaryOf f t) (summaryOf f u)) → P m k
-  pair-told P base =
-      let p = next-inv (joinOf s a b) _ (sym e) in
-      let q = joined s a b (p .0) ha hb (p .1) in
-      let i : _≡_ {A = Summary × Summary} (summaryOf (q .0) (q .1), summaryOf (q .0) (q .2)) (m, k) = sym (accepted-one (e ∙ sym (pair-gives s a b (q .0) (q .1) (q .2) (q .3 .both) (p .0) (p .1)))) in
-      subst (λ (z : Summary × Summary). P (z .0) (z .1)) i (base (p .0) (q .0) (q .1) (q .2) (q .3))
+-- a fact of a pair that can be joined, told of what the pair's answer says
+pair-told : {s : Settings} {a b : List ℕ} {m k : Summary} → Paired s a b m k → (P : Summary → Summary → Type 0)
+    → ((c : List ℕ) (f : Format) (t u : Trace) → Joined s a b c f t u → P (summaryOf f t) (summaryOf f u)) → P m k
+pair-told {s} {a} {b} {m} {k} w P base =
+    let p = next-inv (joinOf s a b) _ (sym (w .seen)) in
+    let q = joined s a b (p .0) (w .first-bytes) (w .second-bytes) (p .1) in
+    let i : _≡_ {A = Summary × Summary} (summaryOf (q .0) (q .1), summaryOf (q .0) (q .2)) (m, k) =
+    accepted-one (pair-gives (q .3 .both) (p .0) (p .1) ∙ sym (w .seen)) in
+    subst (λ (z : Summary × Summary). P (z .0) (z .1)) i (base (p .0) (q .0) (q .1) (q .2) (q .3))
 
 -- ---- frame n
 
@@ -76,24 +76,27 @@ found-in f t n = by (nth (framesAt f t) n) refl
     by (accepted r) e = refl
     by (refused j) e = ap refused (refused-same (sym e ∙ shown-none (frameSeen f) (putFrame f) (framesAt f t) n (ap (shownNth (frameSeen f) (putFrame f)) (sym e))))
 
-pub found-data : (f : Format) (b : List ℕ) (t : Trace) (n : ℕ) → File f b t → foundPlace (nthHead f b n (length (opening (t .lines)))) ≡ frameData n f t
-found-data f b t n i = ap foundPlace (head-nth f b t n i) ∙ found-in f t n
+found-data : (f : Format) (b : List ℕ) (t : Trace) (n : ℕ) → File f b t
+    → foundPlace (nthHead f (take (framesEnd f t) b) n (length (opening (t .lines)))) ≡ frameData n f t
+found-data f b t n i = ap foundPlace (head-front f b t n i) ∙ found-in f t n
 
 module _ (s : Settings) (a b c : List ℕ) (f : Format) (t u : Trace) (i : Joined s a b c f t u) (n : ℕ) where
   pub place-is : pairPlace s a b n ≡ sided f n t u
   unfolding pairPlace
   place-is = rw (i .gives, i .both .first-read, i .both .second-read)
 
-  pub place-first : n < length (t .frames) → (x : Answer (ℕ × ℕ)) → x ≡ foundPlace (nthHead f a n (length (opening (t .lines)))) → onSide first x ≡ pairPlace s a b n
+  place-first : n < length (t .frames) → (x : Answer (ℕ × ℕ)) → x ≡ foundPlace (nthHead f (take (framesEnd f t) a) n (length (opening (t .lines))))
+      → onSide first x ≡ pairPlace s a b n
   place-first h x e = sym (place-is ∙ rw (lt-ltb n (length (t .frames)) h, ← found-data f a t n (i .both .first-file), ← e))
 
-  pub place-second : length (t .frames) ≤ n → (x : Answer (ℕ × ℕ)) → x ≡ foundPlace (nthHead f b (n - length (t .frames)) (length (opening (u .lines)))) → onSide second x ≡ pairPlace s a b n
+  place-second : length (t .frames) ≤ n → (x : Answer (ℕ × ℕ))
+      → x ≡ foundPlace (nthHead f (take (framesEnd f u) b) (n - length (t .frames)) (length (opening (u .lines)))) → onSide second x ≡ pairPlace s a b n
   place-second h x e = sym (place-is ∙ rw (le-ltb n (length (t .frames)) h, ← found-data f b u (n - length (t .frames)) (i .both .second-file), ← e))
 
 -- ---- the part is frame n's of the join
 
 -- a frame's data, where the frame is there
-abbrev pub frameBytes : Format → Answer Frame → List ℕ
+abbrev frameBytes : Format → Answer Frame → List ℕ
 frameBytes f (accepted r) = dataOf f r
 frameBytes f (refused n) = []
 
@@ -205,17 +208,15 @@ handed-second s a b r n q ha hb e g =
 module _ (s : Settings) (a b c : List ℕ) (f : Format) (t u : Trace) (i : Joined s a b c f t u) (n v : ℕ) where
   variable-join : pairVariable s a b n v ≡ heldIn n (valueOf v) f (join t u)
   unfolding pairVariable
-  variable-join = rw (i .gives, i .join-read) (value-held f c (join t u) n (i .join-file) v)
+  variable-join = rw (i .gives, i .join-read)
 
-  pub variable-first : n < length (t .frames) → asked s a (variableAt n v) ≡ pairVariable s a b n v
+  variable-first : n < length (t .frames) → asked s a (variableAt n v) ≡ pairVariable s a b n v
   variable-first h =
-      rw (i .both .first-read) (value-held f a t n (i .both .first-file) v)
-      ∙ ap (λ x. next x (λ r. earliest (valueOf v) (r .blocks))) (sym (nth-first (t .frames) (u .frames) n h)) ∙ sym variable-join
+      rw (i .both .first-read) (ap (λ x. next x (λ r. earliest (valueOf v) (r .blocks))) (sym (nth-first (t .frames) (u .frames) n h))) ∙ sym variable-join
 
-  pub variable-second : length (t .frames) ≤ n → asked s b (variableAt (n - length (t .frames)) v) ≡ pairVariable s a b n v
+  variable-second : length (t .frames) ≤ n → asked s b (variableAt (n - length (t .frames)) v) ≡ pairVariable s a b n v
   variable-second h =
-      rw (i .both .second-read) (value-held f b u (n - length (t .frames)) (i .both .second-file) v)
-      ∙ ap (λ x. next x (λ r. earliest (valueOf v) (r .blocks))) (sym (nth-second (t .frames) (u .frames) n h)) ∙ sym variable-join
+      rw (i .both .second-read) (ap (λ x. next x (λ r. earliest (valueOf v) (r .blocks))) (sym (nth-second (t .frames) (u .frames) n h))) ∙ sym variable-join
 
 pub variable-refused : (s : Settings) (a b : List ℕ) (n v k : ℕ) → joinOf s a b ≡ refused k → refused k ≡ pairVariable s a b n v
 unfolding pairVariable
@@ -227,20 +228,26 @@ place-refused s a b n k e = rw e
 
 -- ---- the same by what the pair's answer says, as the code tests it
 
-module _ (s : Settings) (a b : List ℕ) (ha : Bytes a) (hb : Bytes b) (m k : Summary) (e : accepted (m, k) ≡ pairSeen s a b) (n : ℕ) where
-  pub first-told : n < m .frames → (x : Answer (ℕ × ℕ)) → x ≡ foundPlace (nthHead (m .format) a n (m .start)) → onSide first x ≡ pairPlace s a b n
+module _ {s : Settings} {a b : List ℕ} {m k : Summary} (w : Paired s a b m k) (n : ℕ) where
+  pub first-told : n < m .frames → (x : Answer (ℕ × ℕ)) → x ≡ foundPlace (nthHead (m .format) (take (m .end) a) n (m .start))
+      → onSide first x ≡ pairPlace s a b n
   first-told =
-      pair-told s a b ha hb m k e (λ m k. n < m .frames → (x : Answer (ℕ × ℕ)) → x ≡ foundPlace (nthHead (m .format) a n (m .start)) → onSide first x ≡ pairPlace s a b n)
+      pair-told w
+      (λ m k. n < m .frames → (x : Answer (ℕ × ℕ)) → x ≡ foundPlace (nthHead (m .format) (take (m .end) a) n (m .start)) → onSide first x ≡ pairPlace s a b n)
       (λ c f t u i. place-first s a b c f t u i n)
 
-  pub second-told : m .frames ≤ n → (x : Answer (ℕ × ℕ)) → x ≡ foundPlace (nthHead (k .format) b (n - m .frames) (k .start)) → onSide second x ≡ pairPlace s a b n
+  pub second-told : m .frames ≤ n → (x : Answer (ℕ × ℕ)) → x ≡ foundPlace (nthHead (k .format) (take (k .end) b) (n - m .frames) (k .start))
+      → onSide second x ≡ pairPlace s a b n
   second-told =
-      pair-told s a b ha hb m k e (λ m k. m .frames ≤ n → (x : Answer (ℕ × ℕ)) → x ≡ foundPlace (nthHead (k .format) b (n - m .frames) (k .start)) → onSide second x ≡ pairPlace s a b n)
+      pair-told w
+      (λ m k. m .frames ≤ n → (x : Answer (ℕ × ℕ)) → x ≡ foundPlace (nthHead (k .format) (take (k .end) b) (n - m .frames) (k .start))
+      → onSide second x ≡ pairPlace s a b n)
       (λ c f t u i. place-second s a b c f t u i n)
 
   pub value-first : (v : ℕ) → n < m .frames → asked s a (variableAt n v) ≡ pairVariable s a b n v
-  value-first v = pair-told s a b ha hb m k e (λ m k. n < m .frames → asked s a (variableAt n v) ≡ pairVariable s a b n v) (λ c f t u i. variable-first s a b c f t u i n v)
+  value-first v =
+      pair-told w (λ m k. n < m .frames → asked s a (variableAt n v) ≡ pairVariable s a b n v) (λ c f t u i. variable-first s a b c f t u i n v)
 
   pub value-second : (v : ℕ) → m .frames ≤ n → asked s b (variableAt (n - m .frames) v) ≡ pairVariable s a b n v
   value-second v =
-      pair-told s a b ha hb m k e (λ m k. m .frames ≤ n → asked s b (variableAt (n - m .frames) v) ≡ pairVariable s a b n v) (λ c f t u i. variable-second s a b c f t u i n v)
+      pair-told w (λ m k. m .frames ≤ n → asked s b (variableAt (n - m .frames) v) ≡ pairVariable s a b n v) (λ c f t u i. variable-second s a b c f t u i n v)

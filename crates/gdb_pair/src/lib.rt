@@ -1,5 +1,6 @@
 // Two GDB traces read as if they were joined, with no copy made.
 ghost use mathlib.Core.Path.{_≡_};
+ghost use lib.ListN.{take};
 ghost use Rattle.gdb_frames.specs.Nth.{nthHead};
 ghost use Rattle.gdb_frames.specs.Questions.{placeMeaning};
 ghost use Rattle.gdb_blocks.specs.Search.{valueMeaning};
@@ -14,10 +15,10 @@ use refusals::NOT_FOUND;
 
 // The data of frame n of a file that was read.
 fn frame_in(o: Opened, file: &[u8], n: usize) -> PlaceAnswer
-    ensures { λ r. ⌜ placeMeaning r ≡ foundPlace (nthHead (o .format) (now (file .entry)) n (o .start)) ⌝ }
+    ensures { λ r. ⌜ placeMeaning r ≡ foundPlace (nthHead (o .format) (take (o .end) (now (file .entry))) n (o .start)) ⌝ }
 {
     let format = o.format;
-    match gdb_frames::nth_head(format, file, o.start, n) {
+    match gdb_frames::nth_head(format, gdb_read::front(file, o.end), o.start, n) {
         FrameStep::End => PlaceAnswer::Refused(NOT_FOUND),
         FrameStep::Refused(k) => PlaceAnswer::Refused(k),
         FrameStep::Frame { head, next: _ } => PlaceAnswer::At {

@@ -35,9 +35,7 @@ two c = openedMeaning (c .a .given .0 .1 .0)
 
 joins : (c : tie.After-a) → let a = to-start c .args in Joins (a .settings) (a .first .now) (a .second .now) (one c) (two c)
 joins c =
-    let a = to-start c .args in
-    pair-joins (a .settings) (a .first .now) (a .second .now) (one c) (two c) (first-bytes (search)) (second-bytes (search))
-    (at-case pairMeaning (c .a .given .1) (search))
+    pair-joins (record { first-bytes = first-bytes (search); second-bytes = second-bytes (search); seen = at-case pairMeaning (c .a .given .1) (search) })
 
 -- what is copied
 abbrev body : tie.After-a → List ℕ

@@ -1,12 +1,11 @@
 -- `gdb_pair::pair_place` meets its contract: the join's refusal, or frame n by the first count.
 -- Assumes nothing.
-use mathlib.Core.Path.{_≡_, sym, ap, _∙_}
+use mathlib.Core.Path.{sym, ap, _∙_}
 use Rattle.fields.specs.Number.{Bytes}
-use Rattle.fields.specs.Answer.{accepted}
 use Rattle.gdb_read.specs.Steps.{openedMeaning}
 use Rattle.gdb_frames.specs.Questions.{placeMeaning}
-use Rattle.gdb_join.specs.Joined.{pairMeaning, pairSeen}
-use Rattle.gdb_join.specs.JoinLaws.{pair-refused}
+use Rattle.gdb_join.specs.Joined.{pairMeaning}
+use Rattle.gdb_join.specs.JoinLaws.{Paired, pair-refused}
 use Rattle.gdb_pair.specs.Pair.{first, second, onSide}
 use Rattle.gdb_pair.specs.PairLaws.{place-refused, first-told, second-told}
 use Rattle.fields.specs.Given.{bytes-given, at-case}
@@ -15,6 +14,9 @@ use native.Mathlib.Omega.{arith}
 use Rattle.gdb_pair.proofs.pair_place.Statement.{statement}
 use Rattle.gdb_pair.proofs.pair_place.Tie as tie
 
+abbrev to-start : tie.After-a → tie.Start
+to-start c = c .before .before .before .before .before
+
 first-bytes : (c : tie.After-shared-slice-known) → Bytes (c .before .args .first .now)
 first-bytes c = bytes-given (c .before .args .first .now) (c .shared-slice-known .given)
 
@@ -22,8 +24,9 @@ second-bytes : (c : tie.After-shared-slice-known2) → Bytes (c .before .before 
 second-bytes c = bytes-given (c .before .before .args .second .now) (c .shared-slice-known2 .given)
 
 -- the pair as it was read
-paired : (h : tie.After-a) → accepted (openedMeaning (h .a .given .0 .0), openedMeaning (h .a .given .0 .1 .0)) ≡ pairSeen (h .before .before .before .before .before .args .settings) (h .before .before .before .before .before .args .first .now) (h .before .before .before .before .before .args .second .now)
-paired h = at-case pairMeaning (h .a .given .1) (search)
+paired : (c : tie.After-a) → let a = to-start c .args in
+    Paired (a .settings) (a .first .now) (a .second .now) (openedMeaning (c .a .given .0 .0)) (openedMeaning (c .a .given .0 .1 .0))
+paired c = record { first-bytes = first-bytes (search); second-bytes = second-bytes (search); seen = at-case pairMeaning (c .a .given .1) (search) }
 
 returns : tie.Need-returns
 returns c =
@@ -36,42 +39,30 @@ returns c =
 returns-2 : tie.Need-returns-2
 returns-2 c =
     let at-frame-in : tie.After-frame-in = search in
-    let at-then1 : tie.Then1 = search in
     let start : tie.Start = search in
-    let h : tie.After-a = search in
-    let a = start .args in
     ap (λ x. onSide first (placeMeaning x)) (sym (c .before .k2 .given .1))
-    ∙ first-told (a .settings) (a .first .now) (a .second .now) (first-bytes (search)) (second-bytes (search)) _ _ (paired h) (a .n) (at-then1 .if1 .taken) _ (at-frame-in .frame-in .ensures)
+    ∙ first-told (paired (search)) (start .args .n) (at-frame-in .before .if1 .taken) _ (at-frame-in .frame-in .ensures)
 
 returns-3 : tie.Need-returns-3
 returns-3 c =
     let at-frame-in : tie.After-frame-in = search in
-    let at-then1 : tie.Then1 = search in
     let start : tie.Start = search in
-    let h : tie.After-a = search in
-    let a = start .args in
     ap (λ x. onSide first (placeMeaning x)) (sym (c .before .place .given .1))
-    ∙ first-told (a .settings) (a .first .now) (a .second .now) (first-bytes (search)) (second-bytes (search)) _ _ (paired h) (a .n) (at-then1 .if1 .taken) _ (at-frame-in .frame-in .ensures)
+    ∙ first-told (paired (search)) (start .args .n) (at-frame-in .before .if1 .taken) _ (at-frame-in .frame-in .ensures)
 
 returns-4 : tie.Need-returns-4
 returns-4 c =
     let at-frame-in2 : tie.After-frame-in2 = search in
-    let at-else1 : tie.Else1 = search in
     let start : tie.Start = search in
-    let h : tie.After-a = search in
-    let a = start .args in
     ap (λ x. onSide second (placeMeaning x)) (sym (c .before .k3 .given .1))
-    ∙ second-told (a .settings) (a .first .now) (a .second .now) (first-bytes (search)) (second-bytes (search)) _ _ (paired h) (a .n) (omega (arith, at-else1 .if1 .left)) _ (at-frame-in2 .frame-in2 .ensures)
+    ∙ second-told (paired (search)) (start .args .n) (omega (arith, at-frame-in2 .before .if1 .left)) _ (at-frame-in2 .frame-in2 .ensures)
 
 returns-5 : tie.Need-returns-5
 returns-5 c =
     let at-frame-in2 : tie.After-frame-in2 = search in
-    let at-else1 : tie.Else1 = search in
     let start : tie.Start = search in
-    let h : tie.After-a = search in
-    let a = start .args in
     ap (λ x. onSide second (placeMeaning x)) (sym (c .before .place2 .given .1))
-    ∙ second-told (a .settings) (a .first .now) (a .second .now) (first-bytes (search)) (second-bytes (search)) _ _ (paired h) (a .n) (omega (arith, at-else1 .if1 .left)) _ (at-frame-in2 .frame-in2 .ensures)
+    ∙ second-told (paired (search)) (start .args .n) (omega (arith, at-frame-in2 .before .if1 .left)) _ (at-frame-in2 .frame-in2 .ensures)
 
 pub pair-place-spec : {M : Type 1} → statement M
 pair-place-spec =
