@@ -17,7 +17,7 @@ use Rattle.fields.specs.Answer.{accepted, refused, refused-inv}
 use Rattle.fields.specs.Reader.{toEnd}
 use Rattle.fields.specs.Exact.{back-toEnd, forth-toEnd}
 use Rattle.fields.specs.Takes.{shorter}
-use Rattle.gdb_format.specs.Trace.{Frame, Trace, opening, putData, putFrame, dataOf, encode}
+use Rattle.gdb_format.specs.Trace.{Frame, Trace, opening, putData, headIn, putFrame, encode}
 use Rattle.gdb_format.specs.Lines.{registerSize}
 use Rattle.gdb_format.specs.Layout.{FrameFits}
 use Rattle.gdb_format.specs.Decode.{frameHead, read}
@@ -28,7 +28,7 @@ use Rattle.gdb_read.specs.Steps.{Summary, summaryOf, readSeen}
 use Rattle.gdb_frames.specs.File.{File, WasRead, frames-behind, start-within, opening-front, told-front}
 use Rattle.gdb_cut.specs.Selection.{Selection, selects, picks, meaning, valid}
 use Rattle.gdb_cut.specs.Cut.{filter, cut, cutOf}
-use Rattle.gdb_cut.specs.Kept.{keptOf, kept, Heads}
+use Rattle.gdb_cut.specs.Kept.{keptOf, kept, Heads, cutResult, cutLength}
 use Rattle.gdb_cut.specs.declared.Selection as lent
 
 -- ---- refusals
@@ -42,9 +42,6 @@ unfolding cutOf
 cut-refused s c b n v e = rw (v, refused-inv n (read s b) (λ r. summaryOf (r .0) (r .1)) e)
 
 -- ---- the heads of an accepted file's frames
-
-abbrev headIn : Format → Frame → ℕ × List ℕ
-headIn f r = (r .tracepoint, dataOf f r)
 
 heads-bytes : (f : Format) (fs : List Frame) → concatMap (putData f) (map (headIn f) fs) ≡ concatMap (putFrame f) fs
 heads-bytes f [] = refl
@@ -78,13 +75,6 @@ module _ (f : Format) (b : List ℕ) (t : Trace) (i : File f b t) where
   kept-in c = ap (keptOf f c) heads-in ∙ kept-frames f c (t .frames)
 
 -- ---- a cut of a file that was read
-
--- the bytes that the code writes, of a file whose frames start at `start` and fill d from there on
-abbrev pub cutResult : Format → ℕ → List ℕ → lent.Selection → List ℕ
-cutResult f start d c = take start d ++ kept f (meaning c) (drop start d)
-
-abbrev pub cutLength : Format → ℕ → List ℕ → lent.Selection → ℕ
-cutLength f start d c = start + length (kept f (meaning c) (drop start d))
 
 cut-read : (s : Settings) (c : lent.Selection) (b : List ℕ) (f : Format) (t : Trace) → valid c ≡ true → read s b ≡ accepted (f, t)
     → cutOf s c b ≡ accepted (encode f (cut (meaning c) t))

@@ -54,9 +54,9 @@ module _ (f : Format) (b : List ℕ) (at : ℕ) where
     number-is : turn .element .0 ≡ v .tracepoint
     number-is = ap (λ (r : Row). r .tracepoint) (turn .shown)
 
-    pub passed : Passed v m
+    passed-over : Passed v m
     unfolding kept
-    passed =
+    passed-over =
         let q = next-inv (toEnd (frameHead f) (drop m b)) (λ l. accepted (turn .element ∷ l)) (sym (turn .more) ∙ y .1) in
         record {
           past = turn .later;
@@ -65,6 +65,10 @@ module _ (f : Format) (b : List ℕ) (at : ℕ) where
           keeps = λ c.
               ap (keptOf f c) (turn .more) ∙ rw (q .1, number-is) (one-kept f (selects c (v .tracepoint)) (turn .element) _ _ head-bytes);
         }
+
+pub passed : {f : Format} {b : List ℕ} {at : ℕ} {v : Row} {m : ℕ} → Bytes b → Heads f (drop at b)
+    → accepted (some (v, m)) ≡ stepAt headSeen (frameHead f) b at → Passed f b at v m
+passed {f} {b} {at} {v} {m} bs y e = passed-over f b at bs y v m e
 
 pub part-long : {f : Format} {b : List ℕ} {at : ℕ} {v : Row} {m : ℕ} → Passed f b at v m → length (take (m - at) (drop at b)) ≡ m - at
 part-long {b = b} {at = at} {m = m} p = length-part b at (m - at) (omega (arith, p .past, p .inside))

@@ -1,13 +1,13 @@
 // Selections, and cutting GDB traces into an output that the caller lends.
 ghost use mathlib.Core.Path.{_≡_};
 ghost use mathlib.Core.List.{_++_};
-ghost use Prim.Native.Nat.{_+_, _≤_};
+ghost use Prim.Native.Nat.{_≤_};
 ghost use lib.Dec.{leb};
-ghost use lib.ListN.{length, take, drop};
+ghost use lib.ListN.{length, drop};
 ghost use Rattle.fields.specs.Output.{Lent};
 ghost use Rattle.gdb_cut.specs.Selection.{inSome, selects, meaning, valid, against};
 ghost use Rattle.gdb_cut.specs.Cut.{cutOf, editMeaning};
-ghost use Rattle.gdb_cut.specs.Kept.{kept, Heads};
+ghost use Rattle.gdb_cut.specs.Kept.{Heads, cutResult, cutLength};
 use gdb_format::Format;
 use gdb_format::Settings;
 use gdb_read::FrameStep;
@@ -92,7 +92,7 @@ fn is_selected(selection: Selection, n: u16) -> bool
 // How long the cut is of a file whose frames start at `start`.
 fn cut_length(format: Format, file: &[u8], selection: Selection, start: usize) -> usize
     requires { ⌜ (start ≤ length (now file)) × Heads format (drop start (now file)) × (selection .count ≤ 8) ⌝ }
-    ensures { λ r. ⌜ r ≡ start + length (kept format (meaning selection) (drop start (now (file .entry)))) ⌝ }
+    ensures { λ r. ⌜ r ≡ cutLength format start (now (file .entry)) selection ⌝ }
 {
     let mut at = start;
     let mut len = start;
@@ -117,7 +117,7 @@ fn cut_length(format: Format, file: &[u8], selection: Selection, start: usize) -
 // Whether the cut fits into `room` bytes. It is no longer than the file, so that where the file fits the frames need no walk.
 fn has_room(format: Format, file: &[u8], selection: Selection, start: usize, room: usize) -> bool
     requires { ⌜ (start ≤ length (now file)) × Heads format (drop start (now file)) × (selection .count ≤ 8) ⌝ }
-    ensures { λ r. ⌜ r ≡ leb (start + length (kept format (meaning selection) (drop start (now (file .entry))))) room ⌝ }
+    ensures { λ r. ⌜ r ≡ leb (cutLength format start (now (file .entry)) selection) room ⌝ }
 {
     if file.len() <= room {
         return true;
@@ -133,8 +133,8 @@ fn write_cut(
     start: usize,
     out: &mut [u8],
 ) -> usize
-    requires { ⌜ (start ≤ length (now file)) × Heads format (drop start (now file)) × (selection .count ≤ 8) × (start + length (kept format (meaning selection) (drop start (now file))) ≤ length (now out)) ⌝ }
-    ensures { λ r. ⌜ (r ≡ start + length (kept format (meaning selection) (drop start (now (file .entry))))) × (now (out .exit) ≡ (take start (now (file .entry)) ++ kept format (meaning selection) (drop start (now (file .entry)))) ++ drop (start + length (kept format (meaning selection) (drop start (now (file .entry))))) (now (out .entry))) ⌝ }
+    requires { ⌜ (start ≤ length (now file)) × Heads format (drop start (now file)) × (selection .count ≤ 8) × (cutLength format start (now file) selection ≤ length (now out)) ⌝ }
+    ensures { λ r. ⌜ (r ≡ cutLength format start (now (file .entry)) selection) × (now (out .exit) ≡ cutResult format start (now (file .entry)) selection ++ drop r (now (out .entry))) ⌝ }
 {
     bytes::copy(&file[..start], out);
     let mut len = start;

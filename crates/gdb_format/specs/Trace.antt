@@ -57,8 +57,11 @@ dataOf f r = concatMap (putBlock f) (r .blocks)
 abbrev pub putData : Format → ℕ × List ℕ → List ℕ
 putData f h = field (f .order) 2 (h .0) ++ (field (f .order) 4 (length (h .1)) ++ h .1)
 
+abbrev pub headIn : Format → Frame → ℕ × List ℕ
+headIn f r = (r .tracepoint, dataOf f r)
+
 abbrev pub putFrame : Format → Frame → List ℕ
-putFrame f r = putData f (r .tracepoint, dataOf f r)
+putFrame f r = putData f (headIn f r)
 
 unfoldable pub encode : Format → Trace → List ℕ
 encode f t = opening (t .lines) ++ concatMap (putFrame f) (t .frames)

@@ -12,7 +12,7 @@ use Rattle.fields.specs.Lists.{concatMap, Each, clash}
 use Rattle.fields.specs.Number.{Bytes, field, length-field}
 use Rattle.fields.specs.Answer.{Answer, accepted, refused, next, never, next-inv, refused-inv, accepted-one, accepted-inj, next-assoc}
 use Rattle.fields.specs.Element.{nth, nth-refused}
-use Rattle.gdb_format.specs.Trace.{Frame, Trace, opening, putFrame, dataOf}
+use Rattle.gdb_format.specs.Trace.{Frame, Trace, opening, headIn, putFrame, dataOf}
 use Rattle.gdb_format.specs.Lines.{registerSize, kindOf}
 use Rattle.gdb_format.specs.Layout.{LineFits, FrameFits}
 use Rattle.gdb_format.specs.Decode.{frameHead, read}
@@ -46,9 +46,6 @@ locatedMeaning (located.Refused n) = refused n
 frame-fill : (f : Format) (r : Frame) → 0 < length (putFrame f r)
 frame-fill f r =
     omega (arith, length-append (field (f .order) 2 (r .tracepoint)) (field (f .order) 4 (length (dataOf f r)) ++ dataOf f r), length-field (f .order) 2 (r .tracepoint))
-
-abbrev headIn : Format → Frame → ℕ × List ℕ
-headIn f r = (r .tracepoint, dataOf f r)
 
 pub head-nth : (f : Format) (b : List ℕ) (t : Trace) (n : ℕ) → File f b t
     → nthHead f b n (length (opening (t .lines))) ≡ shownNth (frameSeen f) (putFrame f) (nth (framesAt f t) n)

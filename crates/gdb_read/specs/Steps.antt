@@ -7,7 +7,7 @@ use mathlib.Core.List.{List}
 use lib.ListN.{length, length-append}
 use Rattle.fields.specs.Lists.{concatMap}
 use Rattle.fields.specs.Answer.{Answer, accepted, refused, next}
-use Rattle.gdb_format.specs.Trace.{Frame, Trace, dataOf, opening, putFrame, encode}
+use Rattle.gdb_format.specs.Trace.{Frame, Trace, opening, headIn, putFrame, encode}
 use Rattle.gdb_format.specs.Lines.{registerSize}
 use Rattle.gdb_format.specs.Decode.{frames}
 use Rattle.gdb_format.specs.Opening.{sizeIn}
@@ -34,7 +34,7 @@ abbrev pub headSeen : ℕ → ℕ × List ℕ → Row
 headSeen at h = record { tracepoint = h .0; place = at + 6; size = length (h .1) }
 
 abbrev pub frameSeen : Format → ℕ → Frame → Row
-frameSeen f at r = headSeen at (r .tracepoint, dataOf f r)
+frameSeen f at r = headSeen at (headIn f r)
 
 -- what `FrameHead` and `FrameStep` say
 abbrev pub headMeaning : FrameHead → Row

@@ -14,8 +14,9 @@ use Rattle.gdb_read.specs.Steps.{Summary, readingMeaning, openedMeaning}
 use Rattle.gdb_frames.specs.File.{WasRead}
 use Rattle.gdb_cut.specs.Selection.{valid, inOrder, meaning}
 use Rattle.gdb_cut.specs.Cut.{cutOf}
+use Rattle.gdb_cut.specs.Kept.{cutResult, cutLength}
 use Rattle.fields.specs.Output.{lent-written, lent-full, lent-refused}
-use Rattle.gdb_cut.proofs.Cuts.{cut-invalid, cut-refused, heads-there, start-there, cutResult, cutLength, cut-gives, result-length}
+use Rattle.gdb_cut.proofs.Cuts.{cut-invalid, cut-refused, heads-there, start-there, cut-gives, result-length}
 use Prim.Native.Nat.{ℕ, _≤_}
 use borrow.Author.Needs.{needs}
 use native.Mathlib.Omega.{arith}
@@ -104,7 +105,7 @@ returns-4 c =
     let a = to-start h .args in
     let w = c .before .before .write-cut in
     lent-written (cutOf (a .settings) (a .selection) (a .file .now)) (a .out .now) _ (w .result) (w .last .1 .1 .1 .1 .0) (gives h)
-    (w .ensures .0 ∙ sym (long h)) (omega (arith, long h, room (search))) (w .ensures .1 ∙ ap (λ n. result h ++ drop n (a .out .now)) (sym (w .ensures .0)))
+    (w .ensures .0 ∙ sym (long h)) (omega (arith, long h, room (search))) (w .ensures .1)
 
 has-room-requires : tie.Need-has-room-requires
 has-room-requires c κs = (start-there (was-read c) (is-front c), heads-there (was-read c) (is-front c), few c)

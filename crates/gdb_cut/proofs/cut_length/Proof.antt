@@ -5,7 +5,7 @@ use Prim.Native.Nat.{_≤_, _-_, _+_}
 use lib.ListN.{length, drop}
 use Rattle.gdb_read.specs.Steps.{headMeaning, frameMeaning}
 use Rattle.gdb_cut.specs.Selection.{meaning}
-use Rattle.gdb_cut.specs.Kept.{kept, Heads}
+use Rattle.gdb_cut.specs.Kept.{kept, Heads, cutLength}
 use Rattle.gdb_cut.proofs.Walk.{Passed, passed, kept-end, heads-never, kept-no, length-yes}
 use Rattle.fields.specs.Given.{bytes-given, at-case}
 use borrow.Author.Needs.{needs}
@@ -16,65 +16,63 @@ use Rattle.gdb_cut.proofs.cut_length.Tie as tie
 abbrev Inv-loop : tie.InvT-loop
 Inv-loop format file selection start at₀ len₀ at len =
     (at ≤ length file) × Heads format (drop at file) × (len ≤ at)
-    × (len + length (kept format (meaning selection) (drop at file)) ≡ start + length (kept format (meaning selection) (drop start file)))
+    × (len + length (kept format (meaning selection) (drop at file)) ≡ cutLength format start file selection)
 
 abbrev μ-loop : tie.MeasureT-loop
 μ-loop format file selection start at₀ len₀ at len = length file - at
 
+-- the places: a turn's start, and a frame met
+abbrev Loop : Type 0
+Loop = tie.At-loop Inv-loop μ-loop
+
+abbrev Head : Type 0
+Head = tie.After-head Inv-loop μ-loop
+
+abbrev Begun : Loop → tie.Start Inv-loop μ-loop
+Begun h = h .before .before
+
 -- the frame that was met
-met : (c : tie.After-head Inv-loop μ-loop)
-    → Passed (c .before .before .before .before .before .args .format) (c .before .before .before .before .before .args .file .now) (c .before .before .before .loop .at) (headMeaning (c .head .given .0 .0)) (c .head .given .0 .1 .0)
+met : (c : Head) → let h : Loop = c .before .before .before in let a = Begun h .args in
+    Passed (a .format) (a .file .now) (h .loop .at) (headMeaning (c .head .given .0 .0)) (c .head .given .0 .1 .0)
 met c =
-    let at-loop : tie.At-loop Inv-loop μ-loop = search in
-    let at-shared-slice-known : tie.After-shared-slice-known Inv-loop μ-loop = search in
-    let start′ : tie.Start Inv-loop μ-loop = search in
-    let a = start′ .args in
-    let l = at-loop .loop in
-    let g = c .head .given in
-    passed (a .format) (a .file .now) (l .at) (bytes-given (a .file .now) (at-shared-slice-known .shared-slice-known .given)) (l .inv .1) (headMeaning (g .0 .0)) (g .0 .1 .0)
-    (at-case frameMeaning (g .1) (search))
+    let slice : tie.After-shared-slice-known Inv-loop μ-loop = search in
+    let h : Loop = search in
+    let file = Begun h .args .file .now in
+    passed (bytes-given file (slice .shared-slice-known .given)) (h .loop .inv .1) (at-case frameMeaning (c .head .given .1) (search))
 
 loop-holds : tie.Need-loop-holds Inv-loop μ-loop
 loop-holds c = (c .before .pre .0, c .before .pre .1, omega arith, refl)
 
 loop-again : tie.Need-loop-again Inv-loop μ-loop
 loop-again c =
-    let at-loop : tie.At-loop Inv-loop μ-loop = search in
-    let start′ : tie.Start Inv-loop μ-loop = search in
+    let h : Loop = search in
     let p = met (search) in
-    let l = at-loop .loop in
-    let a = start′ .args in
-    let e = length-yes p (meaning (a .selection)) (sym (c .before .is-selected .ensures) ∙ c .if1 .taken) in
-    (p .inside, p .rest, omega (arith, p .past), omega (arith, e, l .inv .3))
+    let e = length-yes p (meaning (Begun h .args .selection)) (sym (c .before .is-selected .ensures) ∙ c .if1 .taken) in
+    (p .inside, p .rest, omega (arith, p .past), omega (arith, e, h .loop .inv .3))
 
 loop-again-2 : tie.Need-loop-again-2 Inv-loop μ-loop
 loop-again-2 c =
-    let at-loop : tie.At-loop Inv-loop μ-loop = search in
-    let start′ : tie.Start Inv-loop μ-loop = search in
+    let h : Loop = search in
     let p = met (search) in
-    let l = at-loop .loop in
-    let a = start′ .args in
-    let e = ap length (kept-no p (meaning (a .selection)) (sym (c .before .is-selected .ensures) ∙ c .if1 .left)) in
-    (p .inside, p .rest, omega (arith, p .past), omega (arith, e, l .inv .3))
+    let e = ap length (kept-no p (meaning (Begun h .args .selection)) (sym (c .before .is-selected .ensures) ∙ c .if1 .left)) in
+    (p .inside, p .rest, omega (arith, p .past), omega (arith, e, h .loop .inv .3))
 
 returns : tie.Need-returns Inv-loop μ-loop
 returns c =
-    let at-loop : tie.At-loop Inv-loop μ-loop = search in
-    let start′ : tie.Start Inv-loop μ-loop = search in
-    let l = at-loop .loop in
-    let a = start′ .args in
-    omega (arith, l .inv .3, ap length (kept-end (a .format) (a .file .now) (l .at) (meaning (a .selection)) (at-case frameMeaning (c .enum-told .given .1) (search))))
+    let h : Loop = search in
+    let a = Begun h .args in
+    let e = kept-end (a .format) (a .file .now) (h .loop .at) (meaning (a .selection)) (at-case frameMeaning (c .enum-told .given .1) (search)) in
+    omega (arith, h .loop .inv .3, ap length e)
 
 returns-2 : tie.Need-returns-2 Inv-loop μ-loop
 returns-2 c =
-    let at-loop : tie.At-loop Inv-loop μ-loop = search in
-    let start′ : tie.Start Inv-loop μ-loop = search in
-    let l = at-loop .loop in
-    let a = start′ .args in
-    heads-never (a .format) (a .file .now) (l .at) (c .enum-told2 .given .0 .0) (l .inv .1) (at-case frameMeaning (c .enum-told2 .given .1) (search))
+    let h : Loop = search in
+    let a = Begun h .args in
+    heads-never (a .format) (a .file .now) (h .loop .at) (c .enum-told2 .given .0 .0) (h .loop .inv .1)
+    (at-case frameMeaning (c .enum-told2 .given .1) (search))
 
 is-selected-requires : tie.Need-is-selected-requires Inv-loop μ-loop
-is-selected-requires c κs = let start′ : tie.Start Inv-loop μ-loop = search in start′ .pre .2
+is-selected-requires c κs = Begun (search) .pre .2
 
 sub-len : tie.Need-sub-len Inv-loop μ-loop
 sub-len c = let p = met (search) in omega (arith, p .past)

@@ -1,4 +1,5 @@
--- `gdb_cut::write_cut` meets its contract. The loop's invariant: the output starts with w, its rest is as it was, and w with what is kept of the rest is the whole cut.
+-- `gdb_cut::write_cut` meets its contract. The loop's invariant: the output starts with w, its rest is as it was, and w with what is kept
+-- of the rest is the whole cut.
 -- Assumes nothing.
 use mathlib.Core.Path.{_≡_, refl, sym, ap, ap₂, _∙_}
 use Prim.Native.Nat.{_≤_, _-_, _+_}
@@ -8,7 +9,7 @@ use lib.Seq.{length-take-le}
 use Prim.Native.Nat.{ℕ}
 use Rattle.gdb_read.specs.Steps.{headMeaning, frameMeaning}
 use Rattle.gdb_cut.specs.Selection.{meaning}
-use Rattle.gdb_cut.specs.Kept.{kept, Heads}
+use Rattle.gdb_cut.specs.Kept.{kept, Heads, cutResult, cutLength}
 use Rattle.gdb_cut.proofs.Walk.{Passed, passed, kept-end, heads-never, kept-yes, kept-no, part-long, length-yes}
 use Rattle.fields.specs.Copies.{first-out, first-rest, first-long, out-long, lengths, more-long, more-out}
 use Rattle.fields.specs.Given.{bytes-given, at-case}
@@ -21,12 +22,19 @@ abbrev Inv-loop : tie.InvT-loop
 Inv-loop format file selection start out₀ len₀ at₀ out len at =
     (at ≤ length file) × Heads format (drop at file)
     × (w : List ℕ) × (length w ≡ len) × (out ≡ w ++ drop len out₀)
-    × (w ++ kept format (meaning selection) (drop at file) ≡ take start file ++ kept format (meaning selection) (drop start file))
+    × (w ++ kept format (meaning selection) (drop at file) ≡ cutResult format start file selection)
 
 abbrev μ-loop : tie.MeasureT-loop
 μ-loop format file selection start out₀ len₀ at₀ out len at = length file - at
 
-abbrev Begun : tie.At-loop Inv-loop μ-loop → tie.Start Inv-loop μ-loop
+-- the places: a turn's start, and a frame met
+abbrev Loop : Type 0
+Loop = tie.At-loop Inv-loop μ-loop
+
+abbrev Head : Type 0
+Head = tie.After-head Inv-loop μ-loop
+
+abbrev Begun : Loop → tie.Start Inv-loop μ-loop
 Begun h = h .before .before .before .before .before .before .before .before
 
 loop-holds : tie.Need-loop-holds Inv-loop μ-loop
@@ -38,24 +46,21 @@ loop-holds c =
     (q .pre .0, q .pre .1, w, n, first-out w (q .args .out .now) (k .last .1 .0) (q .args .start) (sym n) (k .ensures .1), refl)
 
 -- the frame that was met
-met : (c : tie.After-head Inv-loop μ-loop)
-    → Passed (Begun (c .before .before .before) .args .format) (Begun (c .before .before .before) .args .file .now) (c .before .before .before .loop .at) (headMeaning (c .head .given .0 .0)) (c .head .given .0 .1 .0)
+met : (c : Head) → let h : Loop = c .before .before .before in let a = Begun h .args in
+    Passed (a .format) (a .file .now) (h .loop .at) (headMeaning (c .head .given .0 .0)) (c .head .given .0 .1 .0)
 met c =
-    let at-shared-slice-known : tie.After-shared-slice-known Inv-loop μ-loop = search in
-    let h : tie.At-loop Inv-loop μ-loop = search in
-    let a = (Begun h) .args in
-    let l = h .loop in
-    let g = c .head .given in
-    passed (a .format) (a .file .now) (l .at) (bytes-given (a .file .now) (at-shared-slice-known .shared-slice-known .given)) (l .inv .1) (headMeaning (g .0 .0)) (g .0 .1 .0)
-    (at-case frameMeaning (g .1) (search))
+    let slice : tie.After-shared-slice-known Inv-loop μ-loop = search in
+    let h : Loop = search in
+    let file = Begun h .args .file .now in
+    passed (bytes-given file (slice .shared-slice-known .given)) (h .loop .inv .1) (at-case frameMeaning (c .head .given .1) (search))
 
 loop-again : tie.Need-loop-again Inv-loop μ-loop
 loop-again c =
     let at-then1 : tie.Then1 Inv-loop μ-loop = search in
     let at-is-selected : tie.After-is-selected Inv-loop μ-loop = search in
-    let at-head : tie.After-head Inv-loop μ-loop = search in
+    let at-head : Head = search in
     let at-copy : tie.After-copy Inv-loop μ-loop = search in
-    let h : tie.At-loop Inv-loop μ-loop = search in
+    let h : Loop = search in
     let a = (Begun h) .args in
     let p = met (search) in
     let y = sym (at-is-selected .is-selected .ensures) ∙ at-then1 .if1 .taken in
@@ -75,17 +80,16 @@ loop-again c =
 
 loop-again-2 : tie.Need-loop-again-2 Inv-loop μ-loop
 loop-again-2 c =
-    let h : tie.At-loop Inv-loop μ-loop = search in
+    let h : Loop = search in
     let p = met (search) in
     let l = h .loop in
     let e = kept-no p (meaning (Begun h .args .selection)) (sym (c .before .is-selected .ensures) ∙ c .if1 .left) in
     (p .inside, p .rest, l .inv .2, l .inv .3, l .inv .4, ap (λ x. l .inv .2 ++ x) (sym e) ∙ l .inv .5)
 
--- what is cutResult and what is to come is the whole, and the output is as long as it was
-room : (h : tie.At-loop Inv-loop μ-loop)
-    → (h .loop .len + length (kept (Begun h .args .format) (meaning (Begun h .args .selection)) (drop (h .loop .at) (Begun h .args .file .now)))
-    ≡ Begun h .args .start + length (kept (Begun h .args .format) (meaning (Begun h .args .selection)) (drop (Begun h .args .start) (Begun h .args .file .now))))
-    × (length (h .loop .out) ≡ length (Begun h .args .out .now))
+-- what is written and what is to come is the whole, and the output is as long as it was
+room : (h : Loop) → let a = Begun h .args in
+    (h .loop .len + length (kept (a .format) (meaning (a .selection)) (drop (h .loop .at) (a .file .now))) ≡ cutLength (a .format) (a .start) (a .file .now) (a .selection))
+    × (length (h .loop .out) ≡ length (a .out .now))
 room h =
     let at-copy : tie.After-copy Inv-loop μ-loop = search in
     let q = Begun h in
@@ -101,7 +105,7 @@ room h =
 returns : tie.Need-returns Inv-loop μ-loop
 returns c =
     let at-copy : tie.After-copy Inv-loop μ-loop = search in
-    let h : tie.At-loop Inv-loop μ-loop = search in
+    let h : Loop = search in
     let q = Begun h in
     let a = q .args in
     let l = h .loop in
@@ -110,18 +114,19 @@ returns c =
     let w : List ℕ = take (a .start) (a .file .now) in
     let n : length w ≡ a .start = length-take-le (a .start) (a .file .now) (q .pre .0) in
     let e = kept-end (a .format) (a .file .now) (l .at) s (at-case frameMeaning (c .enum-told .given .1) (search)) in
-    let t : l .len ≡ a .start + length (kept (a .format) s (drop (a .start) (a .file .now))) = omega (arith, (room h) .0, ap length e) in (
+    let t : l .len ≡ cutLength (a .format) (a .start) (a .file .now) (a .selection) = omega (arith, (room h) .0, ap length e) in (
       t,
       l .inv .4
           ∙ ap₂ (λ x z. x ++ z) (sym (append-nil (l .inv .2)) ∙ ap (λ x. l .inv .2 ++ x) (sym e) ∙ l .inv .5)
-          (first-rest w (a .out .now) (k .last .1 .0) (k .result) (k .ensures .0) (k .ensures .1) (l .len) (omega (arith, n, t)) ∙ ap (λ m. drop m (a .out .now)) t),
+          (first-rest w (a .out .now) (k .last .1 .0) (k .result) (k .ensures .0) (k .ensures .1) (l .len) (omega (arith, n, t))),
     )
 
 returns-2 : tie.Need-returns-2 Inv-loop μ-loop
 returns-2 c =
-    let h : tie.At-loop Inv-loop μ-loop = search in
+    let h : Loop = search in
     let a = (Begun h) .args in
-    heads-never (a .format) (a .file .now) (h .loop .at) (c .enum-told2 .given .0 .0) (h .loop .inv .1) (at-case frameMeaning (c .enum-told2 .given .1) (search))
+    heads-never (a .format) (a .file .now) (h .loop .at) (c .enum-told2 .given .0 .0) (h .loop .inv .1)
+    (at-case frameMeaning (c .enum-told2 .given .1) (search))
 
 slice-aggregate-copy : tie.Need-slice-aggregate-copy Inv-loop μ-loop
 slice-aggregate-copy c = let q : tie.Start Inv-loop μ-loop = search in sym (length-take-le (q .args .start) (q .args .file .now) (q .pre .0))
@@ -148,15 +153,15 @@ part-copy-end : tie.Need-part-copy-end Inv-loop μ-loop
 part-copy-end c = (met (search)) .inside
 
 sub-copy-2 : tie.Need-sub-copy-2 Inv-loop μ-loop
-sub-copy-2 c = let h : tie.At-loop Inv-loop μ-loop = search in omega (arith, room h, (Begun h) .pre .3)
+sub-copy-2 c = let h : Loop = search in omega (arith, room h, (Begun h) .pre .3)
 
 part-copy-start-2 : tie.Need-part-copy-start-2 Inv-loop μ-loop
-part-copy-start-2 c = let h : tie.At-loop Inv-loop μ-loop = search in omega (arith, room h, (Begun h) .pre .3)
+part-copy-start-2 c = let h : Loop = search in omega (arith, room h, (Begun h) .pre .3)
 
 copy-requires-2 : tie.Need-copy-requires-2 Inv-loop μ-loop
 copy-requires-2 c κs =
     let at-is-selected : tie.After-is-selected Inv-loop μ-loop = search in
-    let h : tie.At-loop Inv-loop μ-loop = search in
+    let h : Loop = search in
     let q = Begun h in
     let p = met (search) in
     let z = length-yes p (meaning (q .args .selection)) (sym (at-is-selected .is-selected .ensures) ∙ c .before .before .if1 .taken) in
@@ -169,7 +174,7 @@ add-len : tie.Need-add-len Inv-loop μ-loop
 add-len c =
     let at-then1 : tie.Then1 Inv-loop μ-loop = search in
     let at-is-selected : tie.After-is-selected Inv-loop μ-loop = search in
-    let h : tie.At-loop Inv-loop μ-loop = search in
+    let h : Loop = search in
     let q = Begun h in
     let p = met (search) in
     let z = length-yes p (meaning (q .args .selection)) (sym (at-is-selected .is-selected .ensures) ∙ at-then1 .if1 .taken) in
