@@ -1,6 +1,6 @@
 -- A turn of the walk over a file's frames, which are counted.
 -- Assumes nothing.
-use mathlib.Core.Path.{_≡_, refl, sym, ap}
+use mathlib.Core.Path.{_≡_, refl, sym, ap, _∙_}
 use mathlib.Core.Option.{Option, none, some}
 use Prim.Native.Nat.{ℕ, _+_, _<_, _≤_}
 use native.Mathlib.Nat.{zero-add, add-zero}
@@ -14,13 +14,13 @@ use Rattle.gdb_format.specs.Trace.{Frame}
 use Rattle.gdb_format.specs.Decode.{frame, frames}
 use Rattle.gdb_format.specs.ExactFrame.{takes-frame}
 use Rattle.gdb_format.specs.declared.Format.{Format}
-use Rattle.gdb_read.specs.Steps.{Row, frameSeen}
+use Rattle.gdb_read.specs.Steps.{Row, frameSeen, framesCounted}
 
 -- n frames, and those of the rest
-abbrev pub countedFrom : ℕ → Answer (List Frame) → Answer ℕ
+abbrev countedFrom : ℕ → Answer (List Frame) → Answer ℕ
 countedFrom n x = next x (λ fs. accepted (n + length fs))
 
-pub count-none : (x : Answer (List Frame)) → countedFrom 0 x ≡ next x (λ fs. accepted (length fs))
+count-none : (x : Answer (List Frame)) → countedFrom 0 x ≡ next x (λ fs. accepted (length fs))
 count-none (accepted fs) = ap accepted (zero-add (length fs))
 count-none (refused n) = refl
 
@@ -28,18 +28,39 @@ count-one : (n : ℕ) (x : Answer (List Frame)) (r : Frame) → countedFrom n (n
 count-one n (accepted l) r = ap accepted (omega arith)
 count-one n (refused k) r = refl
 
-module _ (f : Format) (size : Option ℕ) (s : List ℕ) (at n : ℕ) where
-  pub count-end : accepted none ≡ stepAt (frameSeen f) (frame f size) s at → accepted n ≡ countedFrom n (frames f size (drop at s))
-  unfolding frames
-  count-end e = rw (walk-end (frameSeen f) (frame f size) (takes-frame f size) s at (sym e)) (ap accepted (sym (add-zero n)))
+-- a walk from `from` that has come to `at` over n frames: they and those of the rest are those of the whole
+pub record Counting (f : Format) (size : Option ℕ) (s : List ℕ) (from at n : ℕ) : Type 0 where
+  pub few : n ≤ at
+  pub same : countedFrom n (frames f size (drop at s)) ≡ framesCounted f size (drop from s)
 
-  pub count-refused : (k : ℕ) → refused k ≡ stepAt (frameSeen f) (frame f size) s at → refused k ≡ countedFrom n (frames f size (drop at s))
-  unfolding frames
-  count-refused k e = rw (walk-refused (frameSeen f) (frame f size) (takes-frame f size) s at k (sym e))
+pub count-starts : (f : Format) (size : Option ℕ) (s : List ℕ) (from : ℕ) → Counting f size s from from 0
+count-starts f size s from = record { few = omega arith; same = count-none (frames f size (drop from s)) }
 
-  pub count-turn : (v : Row) (m : ℕ) → accepted (some (v, m)) ≡ stepAt (frameSeen f) (frame f size) s at
-      → (at < m) × (m ≤ length s) × (countedFrom (n + 1) (frames f size (drop m s)) ≡ countedFrom n (frames f size (drop at s)))
+-- the frame that was met: where it lies, and the walk behind it
+pub record Counted (f : Format) (size : Option ℕ) (s : List ℕ) (from at n m : ℕ) : Type 0 where
+  pub later : at < m
+  pub within : m ≤ length s
+  pub onward : Counting f size s from m (n + 1)
+
+module _ {f : Format} {size : Option ℕ} {s : List ℕ} {from at n : ℕ} (w : Counting f size s from at n) where
+  pub count-end : accepted none ≡ stepAt (frameSeen f) (frame f size) s at → accepted n ≡ framesCounted f size (drop from s)
   unfolding frames
-  count-turn v m e =
+  count-end e =
+      ap accepted (sym (add-zero n)) ∙ sym (ap (countedFrom n) (walk-end (frameSeen f) (frame f size) (takes-frame f size) s at (sym e))) ∙ w .same
+
+  pub count-refused : {k : ℕ} → refused k ≡ stepAt (frameSeen f) (frame f size) s at → refused k ≡ framesCounted f size (drop from s)
+  unfolding frames
+  count-refused {k} e = sym (ap (countedFrom n) (walk-refused (frameSeen f) (frame f size) (takes-frame f size) s at k (sym e))) ∙ w .same
+
+  pub count-turn : {v : Row} {m : ℕ} → accepted (some (v, m)) ≡ stepAt (frameSeen f) (frame f size) s at → Counted f size s from at n m
+  unfolding frames
+  count-turn {v} {m} e =
       let t = walk-more (frameSeen f) (frame f size) (takes-frame f size) s at v m (sym e) in
-      (t .later, t .within, sym (rw (t .more) (count-one n (toEnd (frame f size) (drop m s)) (t .element))))
+      record {
+        later = t .later;
+        within = t .within;
+        onward = record {
+          few = omega (arith, w .few, t .later);
+          same = sym (rw (t .more) (count-one n (toEnd (frame f size) (drop m s)) (t .element))) ∙ w .same;
+        };
+      }
