@@ -1,11 +1,11 @@
-"""The public functions of the library's crates, with the text of their contracts."""
+"""The functions of the crates with the text of their contracts, and which of them are public."""
 import re
 from dataclasses import dataclass
 from pathlib import Path
 
 ROOT = Path(__file__).resolve().parent.parent.parent
 
-HEAD = re.compile(r'^pub (?:extern "C" )?fn (\w+)', re.M)
+HEAD = re.compile(r'^ *(pub(?:\(crate\))? )?(?:extern "C" )?fn (\w+)', re.M)
 MODULE = re.compile(r'^(pub )?mod (\w+);', re.M)
 ENUM = re.compile(r'^pub(?:\(crate\))? enum (\w+) \{(.*?)^\}', re.M | re.S)
 COMMENT = re.compile(r'//.*')
@@ -16,8 +16,9 @@ BOUND = re.compile(r'λ (\w+)\.')
 
 @dataclass
 class Function:
-    """A public function: its place, its parameters and result as written, and what its contract says."""
+    """A function: its place, its parameters and result as written, and what its contract says."""
     place: str
+    public: bool
     name: str
     signature: str
     requires: str
@@ -49,7 +50,7 @@ def braced(text, at):
 
 
 def functions_in(text, place):
-    """The public functions of one file."""
+    """The functions of one file."""
     text = COMMENT.sub('', text)
     for head in HEAD.finditer(text):
         at = text.index('{', head.end())
@@ -65,7 +66,7 @@ def functions_in(text, place):
             if not text[behind:at].strip():
                 break
             signature += text[behind:at]
-        yield Function(place, head[1], signature.strip(), clauses['requires'], clauses['ensures'])
+        yield Function(place, head[1] == 'pub ', head[2], signature.strip(), clauses['requires'], clauses['ensures'])
 
 
 def public_files(folder):
@@ -85,7 +86,12 @@ def libraries(root=ROOT):
 
 def public_functions(root=ROOT):
     return [f for folder in libraries(root) for path in public_files(folder)
-            for f in functions_in(path.read_text(), str(path.relative_to(root)))]
+            for f in functions_in(path.read_text(), str(path.relative_to(root))) if f.public]
+
+
+def promising(path):
+    """The functions of a file that have a contract."""
+    return {f.name for f in functions_in(path.read_text(), str(path)) if f.ensures}
 
 
 def enums(root=ROOT):

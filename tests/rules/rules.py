@@ -6,6 +6,7 @@ import sys
 from dataclasses import dataclass, field
 from pathlib import Path
 
+from contracts import promising
 from declared import declared_in, elsewhere, files_called, found
 from papers import LANDED, Heading, demanded
 
@@ -147,6 +148,8 @@ def cited(root, holder):
         elif name is not None and name not in (declared_in(file) or ()):
             moved = elsewhere(root, name, file)
             yield f'`{name}` is not declared in {path}' + (f'; it is declared in {", ".join(moved)}' if moved else '; it is declared nowhere')
+        elif name is not None and holder.word == 'proved' and file.suffix == '.rt' and name not in promising(file):
+            yield f'`{name}` in {path} has no contract'
     for words, path in CASE.findall(holder.text):
         file = found(root, path)
         if file is not None and words not in file.read_text():

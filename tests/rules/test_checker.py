@@ -170,6 +170,10 @@ class Spoiled(unittest.TestCase):
         self.hold('- run: `exactness` in `docs/DECISIONS.md`')
         self.one('`exactness` is not declared in docs/DECISIONS.md')
 
+    def test_a_function_without_a_contract(self):
+        self.hold('- proved: contract `main` in `frame_list/src/main.rt`')
+        self.one('`main` in frame_list/src/main.rt has no contract')
+
     def test_a_case_that_is_gone(self):
         self.hold('- run: "no such case" in `tests/listing/run`')
         self.one('"no such case" does not stand in tests/listing/run')
