@@ -1,6 +1,7 @@
 """The functions of the crates with the text of their contracts, and which of them are public."""
 import re
 from dataclasses import dataclass
+from functools import lru_cache
 from pathlib import Path
 
 ROOT = Path(__file__).resolve().parent.parent.parent
@@ -89,6 +90,7 @@ def public_functions(root=ROOT):
             for f in functions_in(path.read_text(), str(path.relative_to(root))) if f.public]
 
 
+@lru_cache(maxsize=None)
 def promising(path):
     """The functions of a file that have a contract."""
     return {f.name for f in functions_in(path.read_text(), str(path)) if f.ensures}

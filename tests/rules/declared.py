@@ -29,14 +29,19 @@ def language_of(path):
 
 
 @lru_cache(maxsize=None)
+def without_comments(path):
+    """A file's text, its comments left out where its language is known."""
+    language = language_of(path)
+    return LANGUAGES[language][0].sub('', path.read_text()) if language else path.read_text()
+
+
+@lru_cache(maxsize=None)
 def declared_in(path):
     """The names that a file declares, None where its language has none."""
     language = language_of(path)
     if language is None:
         return None
-    comment, patterns = LANGUAGES[language]
-    text = comment.sub('', path.read_text())
-    return {name for pattern in patterns for name in pattern.findall(text)}
+    return {name for pattern in LANGUAGES[language][1] for name in pattern.findall(without_comments(path))}
 
 
 def sources(root):
@@ -45,7 +50,7 @@ def sources(root):
 
 def elsewhere(root, name, file):
     """The files of the same language that declare a name: where it may have moved to."""
-    return [str(p.relative_to(root)) for p in sources(root) if p.suffix == file.suffix and name in (declared_in(p) or ())]
+    return [str(p.relative_to(root)) for p in sources(root) if p.suffix == file.suffix and name in (declared_in(p.resolve()) or ())]
 
 
 def files_called(root, name):
@@ -53,9 +58,10 @@ def files_called(root, name):
     return [str(p.relative_to(root)) for p in sources(root) if p.name == name]
 
 
+@lru_cache(maxsize=None)
 def found(root, path):
     """The file that a path of docs/RULES.md names, from the root or from crates/."""
     for place in (root / path, root / 'crates' / path):
         if place.exists():
-            return place
+            return place.resolve()
     return None

@@ -7,7 +7,7 @@ from dataclasses import dataclass, field
 from pathlib import Path
 
 from contracts import promising
-from declared import declared_in, elsewhere, files_called, found
+from declared import declared_in, elsewhere, files_called, found, without_comments
 from papers import LANDED, Heading, demanded
 
 ROOT = Path(__file__).resolve().parent.parent.parent
@@ -23,6 +23,10 @@ TICKED = re.compile(r'`([^`]+)`')
 CASE = re.compile(r'"([^"]+)" in `([^`]+)`')
 ITEM = re.compile(r'^- "([^"]+)"')
 HOLDER = re.compile(r'^- (\w+): (.*)')
+
+# What the gate runs: folders of tests, which .ci/run names, edits that must fail, and programs with their input and output.
+TESTS = re.compile(r'^tests/[a-z]+|^bindings/rust')
+PROGRAM = re.compile(r'^(?:crates/)?[a-z_]+/(?:must-fail/\w+\.edit|stdin|stdout)$')
 
 # How far behind a fault the next sentence is looked for.
 AHEAD = 20
@@ -133,6 +137,12 @@ def citations(text):
     yield from [(name, None) for name in names]
 
 
+def is_run(root, path):
+    """Whether the gate runs a file. This folder's tests are asked for by the gate alone."""
+    folder = TESTS.match(path)
+    return bool(PROGRAM.match(path) or folder and (folder[0] == 'tests/rules' or folder[0] in (root / '.ci/run').read_text()))
+
+
 def cited(root, holder):
     """The faults of what a holder cites."""
     pairs = list(citations(holder.text))
@@ -148,11 +158,13 @@ def cited(root, holder):
         elif name is not None and name not in (declared_in(file) or ()):
             moved = elsewhere(root, name, file)
             yield f'`{name}` is not declared in {path}' + (f'; it is declared in {", ".join(moved)}' if moved else '; it is declared nowhere')
+        elif holder.word == 'run' and not is_run(root, path):
+            yield f'{path} is nothing that the gate runs'
         elif name is not None and holder.word == 'proved' and file.suffix == '.rt' and name not in promising(file):
             yield f'`{name}` in {path} has no contract'
     for words, path in CASE.findall(holder.text):
         file = found(root, path)
-        if file is not None and words not in file.read_text():
+        if file is not None and words not in without_comments(file):
             yield f'"{words}" does not stand in {path}'
 
 

@@ -167,16 +167,24 @@ class Spoiled(unittest.TestCase):
         self.one('`exactness` has no file behind it')
 
     def test_a_name_in_a_file_without_declarations(self):
-        self.hold('- run: `exactness` in `docs/DECISIONS.md`')
+        self.hold('- form: `exactness` in `docs/DECISIONS.md`')
         self.one('`exactness` is not declared in docs/DECISIONS.md')
 
     def test_a_function_without_a_contract(self):
         self.hold('- proved: contract `main` in `frame_list/src/main.rt`')
         self.one('`main` in frame_list/src/main.rt has no contract')
 
+    def test_a_run_of_what_does_not_run(self):
+        self.hold('- run: `cut` in `gdb_cut/src/lib.rt`')
+        self.one('gdb_cut/src/lib.rt is nothing that the gate runs')
+
     def test_a_case_that_is_gone(self):
         self.hold('- run: "no such case" in `tests/listing/run`')
         self.one('"no such case" does not stand in tests/listing/run')
+
+    def test_a_form_in_a_comment_only(self):
+        self.hold('- form: "Joining GDB traces into an output" in `gdb_join/src/lib.rt`')
+        self.one('"Joining GDB traces into an output" does not stand in gdb_join/src/lib.rt')
 
     def test_a_word_that_names_nothing(self):
         self.hold('- proved: of course')
