@@ -164,7 +164,7 @@ def cited(root, holder):
             yield f'`{name}` in {path} has no contract'
     for words, path in CASE.findall(holder.text):
         file = found(root, path)
-        if file is not None and words not in without_comments(file):
+        if file is not None and ' '.join(words.split()) not in ' '.join(without_comments(file).split()):
             yield f'"{words}" does not stand in {path}'
 
 
@@ -202,6 +202,7 @@ def faults(root=ROOT, landed=LANDED):
 
 if __name__ == '__main__':
     told = faults()
-    print(*told, sep='\n')
-    print(f'{len(told)} faults')
+    for fault in told:
+        print(fault)
+    print(f'{len(told)} faults; requests that have landed: {", ".join(LANDED) or "none"}')
     sys.exit(bool(told))
