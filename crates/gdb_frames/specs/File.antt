@@ -4,7 +4,9 @@ use mathlib.Core.Path.{_≡_, refl, sym, ap, _∙_, subst}
 use Prim.Native.Nat.{ℕ, _+_, _-_, _≤_}
 use native.Mathlib.Omega.{arith}
 use mathlib.Core.List.{List, [], _∷_, _++_, append-assoc}
-use lib.ListN.{length, take, drop, length-append}
+use lib.ListN.{length, take, drop, getD, length-append}
+use mir.Syntax.{w8}
+use mir.Val.{Fits}
 use lib.Seq.{take-at, take-all, drop-at}
 use Rattle.fields.specs.Lists.{concatMap}
 use Rattle.fields.specs.Number.{Bytes}
@@ -17,7 +19,11 @@ use Rattle.gdb_format.specs.ExactLines.{exact-opening}
 use Rattle.gdb_format.specs.Exactness.{decode-encode, read-exactness}
 use Rattle.gdb_format.specs.declared.Settings.{Settings}
 use Rattle.gdb_format.specs.declared.Format.{Format}
-use Rattle.gdb_read.specs.Steps.{framesEnd, length-encode, Summary, summaryOf, readSeen}
+use Rattle.fields.specs.Given.{bytes-given, at-case}
+use Rattle.gdb_read.specs.Steps.{framesEnd, length-encode, Summary, summaryOf, readSeen, openedMeaning, readingMeaning}
+use Rattle.gdb_read.specs.declared.Opened.{Opened}
+use Rattle.gdb_read.specs.declared.Reading.{Reading}
+use Rattle.gdb_read.specs.declared.Reading.the-variants as reading
 use Rattle.gdb_frames.specs.Questions.{asked, frameCount}
 
 -- ---- a file and its trace
@@ -95,6 +101,11 @@ asked-refused s b q n e = rw (refused-inv n (read s b) (λ r. summaryOf (r .0) (
 pub record WasRead (s : Settings) (b : List ℕ) (m : Summary) : Type 0 where
   pub bytes : Bytes b
   pub summed : accepted m ≡ readSeen (read s b)
+
+-- as a place of a proof hands it over: the lent bytes, the case that the reading's answer is, and what its contract says
+pub read-given : {s : Settings} {b : List ℕ} {o : Opened} {r : Reading} → ((i : ℕ) → Fits w8 (getD b i 0)) → r ≡ reading.Accepted o
+    → readingMeaning r ≡ readSeen (read s b) → WasRead s b (openedMeaning o)
+read-given {b = b} h e k = record { bytes = bytes-given b h; summed = at-case readingMeaning e k }
 
 -- a fact of what was read, told of the answer
 module _ (s : Settings) (b : List ℕ) (h : Bytes b) (m : Summary) (e : accepted m ≡ readSeen (read s b)) where

@@ -5,11 +5,14 @@ use mathlib.Core.Bool.{Bool, true, false, cond}
 use Prim.Native.Nat.{ℕ, _+_, _-_, _<_, _≤_}
 use native.Mathlib.Omega.{arith}
 use mathlib.Core.List.{List, _++_, append-assoc}
-use lib.ListN.{length, take, drop, length-append, length-drop}
+use lib.ListN.{length, take, drop, getD}
+use mir.Syntax.{w8}
+use mir.Val.{Fits}
 use lib.Dec.{leb}
 use borrow.Author.Tests.{le-leb, lt-leb, leb-true}
 use Rattle.refusals.specs.Refusal.{limit, tooLong, openingsDiffer}
 use Rattle.fields.specs.Lists.{concatMap, concatMap-append}
+use Rattle.fields.specs.Given.{bytes-given, at-case}
 use Rattle.fields.specs.Word.{sameBytes, same-bytes, bytes-same}
 use Rattle.fields.specs.Number.{Bytes}
 use Rattle.fields.specs.Answer.{Answer, accepted, refused, next-inv, refused-inv, cond-inv, never, accepted-one}
@@ -19,11 +22,14 @@ use Rattle.gdb_format.specs.Decode.{read}
 use Rattle.gdb_format.specs.Exactness.{read-exactness}
 use Rattle.gdb_format.specs.declared.Settings.{Settings}
 use Rattle.gdb_format.specs.declared.Format.{Format}
-use Rattle.gdb_read.specs.Steps.{length-encode, Summary, summaryOf, readSeen}
+use Rattle.gdb_read.specs.Steps.{length-encode, Summary, summaryOf, readSeen, openedMeaning}
+use Rattle.gdb_read.specs.declared.Opened.{Opened}
 use Rattle.gdb_frames.specs.File.{File, WasRead, file-of, front-file, frames-part, frames-last, start-within, opening-front, summary-inv}
 use Rattle.gdb_join.specs.Join.{join, withinLimit, joinOf}
 use Rattle.gdb_join.specs.JoinTraces.{length-join}
-use Rattle.gdb_join.specs.Joined.{pairSeen}
+use Rattle.gdb_join.specs.Joined.{pairSeen, pairMeaning}
+use Rattle.gdb_join.specs.declared.Pair.{Pair}
+use Rattle.gdb_join.specs.declared.Pair.the-variants as pair
 
 pub refused-same : {A : Type 0} {i j : ℕ} → _≡_ {A = Answer A} (refused i) (refused j) → j ≡ i
 refused-same e = cc
@@ -169,18 +175,27 @@ join-inv s a b c ha hb e =
     let w = cond-inv (leb (length (encode (p .0 .0) (join (p .0 .1) (q .0 .1)))) limit) (accepted (encode (p .0 .0) (join (p .0 .1) (q .0 .1)))) tooLong (v .1) in
     (p .0 .0, p .0 .1, q .0 .1, r .1, v .0, leb-true _ limit (w .0), accepted-one (w .1))
 
-pub pair-refused : (s : Settings) (a b : List ℕ) (n : ℕ) → Bytes a → Bytes b → refused n ≡ pairSeen s a b → joinOf s a b ≡ refused n
+pair-refused : (s : Settings) (a b : List ℕ) (n : ℕ) → Bytes a → Bytes b → refused n ≡ pairSeen s a b → joinOf s a b ≡ refused n
 pair-refused s a b n ha hb e = by (joinOf s a b) refl
   where
     by : (x : Answer (List ℕ)) → joinOf s a b ≡ x → x ≡ refused n
     by (accepted c) g = let q = join-inv s a b c ha hb g in never (e ∙ sym (pair-gives (q .3) c g))
     by (refused k) g = ap refused (refused-same (e ∙ sym (pair-of-refused s a b k g)))
 
+-- as a place of a proof hands it over: the lent bytes, the case that the answer is, and what its contract says
+pub refused-given : {s : Settings} {a b : List ℕ} {n : ℕ} {r : Pair} → ((i : ℕ) → Fits w8 (getD a i 0)) → ((i : ℕ) → Fits w8 (getD b i 0))
+    → r ≡ pair.Refused n → pairMeaning r ≡ pairSeen s a b → joinOf s a b ≡ refused n
+refused-given {s} {a} {b} {n} f h e k = pair-refused s a b n (bytes-given a f) (bytes-given b h) (at-case pairMeaning e k)
+
 -- two files whose pair is sound, with what each reading told
 pub record Paired (s : Settings) (a b : List ℕ) (m k : Summary) : Type 0 where
   pub first-bytes : Bytes a
   pub second-bytes : Bytes b
   pub seen : accepted (m, k) ≡ pairSeen s a b
+
+pub paired-given : {s : Settings} {a b : List ℕ} {x y : Opened} {r : Pair} → ((i : ℕ) → Fits w8 (getD a i 0)) → ((i : ℕ) → Fits w8 (getD b i 0))
+    → r ≡ pair.Sound x y → pairMeaning r ≡ pairSeen s a b → Paired s a b (openedMeaning x) (openedMeaning y)
+paired-given {a = a} {b = b} f h e k = record { first-bytes = bytes-given a f; second-bytes = bytes-given b h; seen = at-case pairMeaning e k }
 
 -- the join is the first file's frames behind its opening, and the second's frames
 pub record Joins (s : Settings) (a b : List ℕ) (m k : Summary) : Type 0 where

@@ -5,13 +5,13 @@ use mathlib.Core.Bool.{true}
 use mathlib.Core.List.{List, _++_}
 use lib.ListN.{length, take, drop}
 use lib.Dec.{leb}
-use Rattle.fields.specs.Given.{bytes-given, at-case}
+use Rattle.fields.specs.Given.{at-case}
 use borrow.Author.Tests.{not-true, not-false, leb-true, leb-false}
 use Rattle.refusals.specs.Refusal.{badArgument}
 use Rattle.fields.specs.Word.{and-inv}
 use Rattle.fields.specs.Answer.{accepted}
 use Rattle.gdb_read.specs.Steps.{Summary, readingMeaning, openedMeaning}
-use Rattle.gdb_frames.specs.File.{WasRead}
+use Rattle.gdb_frames.specs.File.{WasRead, read-given}
 use Rattle.gdb_cut.specs.Selection.{valid, inOrder, meaning}
 use Rattle.gdb_cut.specs.Cut.{cutOf}
 use Rattle.gdb_cut.specs.Kept.{cutResult, cutLength}
@@ -37,7 +37,7 @@ was-read : (c : tie.After-front) → let a = to-start c .args in WasRead (a .set
 was-read c =
     let slice : tie.After-shared-slice-known = search in
     let o : tie.After-o = search in
-    record { bytes = bytes-given (to-start c .args .file .now) (slice .shared-slice-known .given); summed = at-case readingMeaning (o .o .given .1) (search) }
+    read-given (slice .shared-slice-known .given) (o .o .given .1) (search)
 
 -- the bytes that the walks are given
 abbrev body : tie.After-front → List ℕ

@@ -3,10 +3,10 @@
 use mathlib.Core.Path.{_≡_, ap, _∙_}
 use lib.ListN.{take}
 use Rattle.gdb_read.specs.Steps.{headMeaning, frameMeaning, readingMeaning, openedMeaning}
-use Rattle.gdb_frames.specs.File.{WasRead, asked-refused}
+use Rattle.gdb_frames.specs.File.{WasRead, read-given, asked-refused}
 use Rattle.gdb_frames.specs.Nth.{nthHead}
 use Rattle.gdb_frames.specs.Located.{frameLocated, located-some, located-none, located-never}
-use Rattle.fields.specs.Given.{bytes-given, at-case}
+use Rattle.fields.specs.Given.{at-case}
 use borrow.Author.Needs.{needs}
 use Rattle.gdb_frames.proofs.locate.Statement.{statement}
 use Rattle.gdb_frames.proofs.locate.Tie as tie
@@ -15,9 +15,7 @@ abbrev to-start : tie.After-o → tie.Start
 to-start c = c .before .before .before .before
 
 was-read : (c : tie.After-o) → let a = to-start c .args in WasRead (a .settings) (a .file .now) (openedMeaning (c .o .given .0 .0))
-was-read c =
-    let slice : tie.After-shared-slice-known = search in
-    record { bytes = bytes-given (to-start c .args .file .now) (slice .shared-slice-known .given); summed = at-case readingMeaning (c .o .given .1) (search) }
+was-read c = let slice : tie.After-shared-slice-known = search in read-given (slice .shared-slice-known .given) (c .o .given .1) (search)
 
 abbrev to-o : tie.After-nth-head → tie.After-o
 to-o c = c .before .before .before .before

@@ -5,13 +5,10 @@ use mathlib.Core.List.{List}
 use Prim.Native.Nat.{ℕ, _-_, _≤_}
 use lib.ListN.{length, take, drop, length-drop}
 use lib.Seq.{length-take-le}
-use Rattle.fields.specs.Number.{Bytes}
 use Rattle.gdb_read.specs.Steps.{Summary, openedMeaning}
 use Rattle.fields.specs.Output.{lent-written, lent-full, lent-refused}
-use Rattle.gdb_join.specs.Joined.{pairMeaning}
-use Rattle.gdb_join.specs.JoinLaws.{pair-refused, Joins, joinedLength, pair-joins}
+use Rattle.gdb_join.specs.JoinLaws.{refused-given, Joins, joinedLength, paired-given, pair-joins}
 use Rattle.fields.specs.Copies.{first-over, more-long, more-out}
-use Rattle.fields.specs.Given.{bytes-given, at-case}
 use borrow.Author.Needs.{needs}
 use native.Mathlib.Omega.{arith}
 use Rattle.gdb_join.proofs.join.Statement.{statement}
@@ -19,12 +16,6 @@ use Rattle.gdb_join.proofs.join.Tie as tie
 
 abbrev to-start : tie.After-a → tie.Start
 to-start c = c .before .before .before .before .before .before
-
-first-bytes : (c : tie.After-shared-slice-known) → Bytes (c .before .args .first .now)
-first-bytes c = bytes-given (c .before .args .first .now) (c .shared-slice-known .given)
-
-second-bytes : (c : tie.After-shared-slice-known2) → Bytes (c .before .before .args .second .now)
-second-bytes c = bytes-given (c .before .before .args .second .now) (c .shared-slice-known2 .given)
 
 -- the two files as they were read
 abbrev one : tie.After-a → Summary
@@ -35,7 +26,9 @@ two c = openedMeaning (c .a .given .0 .1 .0)
 
 joins : (c : tie.After-a) → let a = to-start c .args in Joins (a .settings) (a .first .now) (a .second .now) (one c) (two c)
 joins c =
-    pair-joins (record { first-bytes = first-bytes (search); second-bytes = second-bytes (search); seen = at-case pairMeaning (c .a .given .1) (search) })
+    let f : tie.After-shared-slice-known = search in
+    let s : tie.After-shared-slice-known2 = search in
+    pair-joins (paired-given (f .shared-slice-known .given) (s .shared-slice-known2 .given) (c .a .given .1) (search))
 
 -- what is copied
 abbrev body : tie.After-a → List ℕ
@@ -76,9 +69,9 @@ returns-2 c = let j = joins (search) in lent-full _ _ _ (j .gives) (omega (arith
 
 returns-3 : tie.Need-returns-3
 returns-3 c =
-    let at-joinable : tie.After-joinable = search in
-    let e = ap pairMeaning (sym (c .before .n .given .1)) ∙ at-joinable .joinable .ensures in
-    lent-refused _ _ _ (pair-refused _ _ _ _ (first-bytes (search)) (second-bytes (search)) e)
+    let f : tie.After-shared-slice-known = search in
+    let s : tie.After-shared-slice-known2 = search in
+    lent-refused _ _ _ (refused-given (f .shared-slice-known .given) (s .shared-slice-known2 .given) (c .before .n .given .1) (search))
 
 sub-if2-2 : tie.Need-sub-if2-2
 sub-if2-2 c = joins (search) .second-start

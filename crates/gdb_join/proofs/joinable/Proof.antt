@@ -5,12 +5,12 @@ use mathlib.Core.Bool.{Bool, true, false}
 use Prim.Native.Nat.{_≤_}
 use lib.ListN.{take}
 use lib.Seq.{length-take-le}
-use Rattle.fields.specs.Given.{bytes-given, at-case}
+use Rattle.fields.specs.Given.{at-case}
 use borrow.Author.Tests.{not-true, not-false}
 use Rattle.refusals.specs.Refusal.{limit}
 use Rattle.fields.specs.Lists.{clash}
 use Rattle.gdb_read.specs.Steps.{Summary, readingMeaning, openedMeaning}
-use Rattle.gdb_frames.specs.File.{WasRead}
+use Rattle.gdb_frames.specs.File.{WasRead, read-given}
 use Rattle.gdb_join.specs.JoinLaws.{join-first, join-second, pair-of-refused, first-short, first-start, second-start, second-frames}
 use Rattle.gdb_join.specs.JoinLaws.{pair-differs, pair-long, pair-sound}
 use borrow.Author.Needs.{needs}
@@ -29,17 +29,13 @@ abbrev one : tie.After-a → Summary
 one c = openedMeaning (c .a .given .0 .0)
 
 first-read : (c : tie.After-a) → let a = to-start c .args in WasRead (a .settings) (a .first .now) (one c)
-first-read c =
-    let slice : tie.After-shared-slice-known = search in
-    record { bytes = bytes-given (to-start c .args .first .now) (slice .shared-slice-known .given); summed = at-case readingMeaning (c .a .given .1) (search) }
+first-read c = let slice : tie.After-shared-slice-known = search in read-given (slice .shared-slice-known .given) (c .a .given .1) (search)
 
 abbrev two : tie.After-b → Summary
 two c = openedMeaning (c .b .given .0 .0)
 
 second-read : (c : tie.After-b) → let a = to-start (to-a c) .args in WasRead (a .settings) (a .second .now) (two c)
-second-read c =
-    let slice : tie.After-shared-slice-known2 = search in
-    record { bytes = bytes-given (to-start (to-a c) .args .second .now) (slice .shared-slice-known2 .given); summed = at-case readingMeaning (c .b .given .1) (search) }
+second-read c = let slice : tie.After-shared-slice-known2 = search in read-given (slice .shared-slice-known2 .given) (c .b .given .1) (search)
 
 short : (c : tie.After-b) → one (to-a c) .end ≤ limit
 short c = first-short (first-read (to-a c)) (second-read c)

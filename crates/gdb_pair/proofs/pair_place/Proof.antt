@@ -1,14 +1,11 @@
 -- `gdb_pair::pair_place` meets its contract: the join's refusal, or frame n by the first count.
 -- Assumes nothing.
 use mathlib.Core.Path.{sym, ap, _∙_}
-use Rattle.fields.specs.Number.{Bytes}
 use Rattle.gdb_read.specs.Steps.{openedMeaning}
 use Rattle.gdb_frames.specs.Questions.{placeMeaning}
-use Rattle.gdb_join.specs.Joined.{pairMeaning}
-use Rattle.gdb_join.specs.JoinLaws.{Paired, pair-refused}
+use Rattle.gdb_join.specs.JoinLaws.{Paired, paired-given, refused-given}
 use Rattle.gdb_pair.specs.Pair.{first, second, onSide}
 use Rattle.gdb_pair.specs.PairLaws.{place-refused, first-told, second-told}
-use Rattle.fields.specs.Given.{bytes-given, at-case}
 use borrow.Author.Needs.{needs}
 use native.Mathlib.Omega.{arith}
 use Rattle.gdb_pair.proofs.pair_place.Statement.{statement}
@@ -17,24 +14,23 @@ use Rattle.gdb_pair.proofs.pair_place.Tie as tie
 abbrev to-start : tie.After-a → tie.Start
 to-start c = c .before .before .before .before .before
 
-first-bytes : (c : tie.After-shared-slice-known) → Bytes (c .before .args .first .now)
-first-bytes c = bytes-given (c .before .args .first .now) (c .shared-slice-known .given)
-
-second-bytes : (c : tie.After-shared-slice-known2) → Bytes (c .before .before .args .second .now)
-second-bytes c = bytes-given (c .before .before .args .second .now) (c .shared-slice-known2 .given)
-
 -- the pair as it was read
 paired : (c : tie.After-a) → let a = to-start c .args in
     Paired (a .settings) (a .first .now) (a .second .now) (openedMeaning (c .a .given .0 .0)) (openedMeaning (c .a .given .0 .1 .0))
-paired c = record { first-bytes = first-bytes (search); second-bytes = second-bytes (search); seen = at-case pairMeaning (c .a .given .1) (search) }
+paired c =
+    let f : tie.After-shared-slice-known = search in
+    let s : tie.After-shared-slice-known2 = search in
+    paired-given (f .shared-slice-known .given) (s .shared-slice-known2 .given) (c .a .given .1) (search)
 
 returns : tie.Need-returns
 returns c =
+    let f : tie.After-shared-slice-known = search in
+    let s : tie.After-shared-slice-known2 = search in
     let start : tie.Start = search in
     let a = start .args in
     let g = c .before .k .given in
     place-refused (a .settings) (a .first .now) (a .second .now) (a .n) (g .0 .0)
-    (pair-refused (a .settings) (a .first .now) (a .second .now) (g .0 .0) (first-bytes (search)) (second-bytes (search)) (at-case pairMeaning (g .1) (search)))
+    (refused-given (f .shared-slice-known .given) (s .shared-slice-known2 .given) (g .1) (search))
 
 returns-2 : tie.Need-returns-2
 returns-2 c =
