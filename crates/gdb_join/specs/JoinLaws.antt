@@ -183,9 +183,9 @@ pair-refused s a b n ha hb e = by (joinOf s a b) refl
     by (refused k) g = ap refused (refused-same (e ∙ sym (pair-of-refused s a b k g)))
 
 -- as a place of a proof hands it over: the lent bytes, the case that the answer is, and what its contract says
-pub refused-given : {s : Settings} {a b : List ℕ} {n : ℕ} {r : Pair} → ((i : ℕ) → Fits w8 (getD a i 0)) → ((i : ℕ) → Fits w8 (getD b i 0))
+pub refused-given : (s : Settings) (a b : List ℕ) {n : ℕ} {r : Pair} → ((i : ℕ) → Fits w8 (getD a i 0)) → ((i : ℕ) → Fits w8 (getD b i 0))
     → r ≡ pair.Refused n → pairMeaning r ≡ pairSeen s a b → joinOf s a b ≡ refused n
-refused-given {s} {a} {b} {n} f h e k = pair-refused s a b n (bytes-given a f) (bytes-given b h) (at-case pairMeaning e k)
+refused-given s a b {n} f h e k = pair-refused s a b n (bytes-given a f) (bytes-given b h) (at-case pairMeaning e k)
 
 -- two files whose pair is sound, with what each reading told
 pub record Paired (s : Settings) (a b : List ℕ) (m k : Summary) : Type 0 where

@@ -71,7 +71,7 @@ returns-3 : tie.Need-returns-3
 returns-3 c =
     let f : tie.After-shared-slice-known = search in
     let s : tie.After-shared-slice-known2 = search in
-    lent-refused _ _ _ (refused-given (f .shared-slice-known .given) (s .shared-slice-known2 .given) (c .before .n .given .1) (search))
+    lent-refused _ _ _ (refused-given _ _ _ (f .shared-slice-known .given) (s .shared-slice-known2 .given) (c .before .n .given .1) (search))
 
 sub-if2-2 : tie.Need-sub-if2-2
 sub-if2-2 c = joins (search) .second-start

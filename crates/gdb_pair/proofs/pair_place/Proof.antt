@@ -30,7 +30,7 @@ returns c =
     let a = start .args in
     let g = c .before .k .given in
     place-refused (a .settings) (a .first .now) (a .second .now) (a .n) (g .0 .0)
-    (refused-given (f .shared-slice-known .given) (s .shared-slice-known2 .given) (g .1) (search))
+    (refused-given (a .settings) (a .first .now) (a .second .now) (f .shared-slice-known .given) (s .shared-slice-known2 .given) (g .1) (search))
 
 returns-2 : tie.Need-returns-2
 returns-2 c =

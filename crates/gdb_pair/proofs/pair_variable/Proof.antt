@@ -33,7 +33,7 @@ returns-2 c =
     let a = start .args in
     let g = c .before .k .given in
     variable-refused (a .settings) (a .first .now) (a .second .now) (a .n) (a .number) (g .0 .0)
-    (refused-given (f .shared-slice-known .given) (s .shared-slice-known2 .given) (g .1) (search))
+    (refused-given (a .settings) (a .first .now) (a .second .now) (f .shared-slice-known .given) (s .shared-slice-known2 .given) (g .1) (search))
 
 returns-3 : tie.Need-returns-3
 returns-3 c =
