@@ -24,8 +24,9 @@ use Rattle.gdb_format.specs.Decode.{decode}
 use Rattle.gdb_format.specs.declared.Settings.{Settings}
 use Rattle.gdb_format.specs.declared.Format.{Format}
 use Rattle.gdb_frames.specs.File.{same-lines}
-use Rattle.gdb_cut.specs.Selection as meant
-use Rattle.gdb_cut.specs.Selection.{picks, opposite, meaning, against}
+use Rattle.gdb_select.specs.Selection as meant
+use Rattle.gdb_select.specs.Selection.{opposite, meaning, against}
+use Rattle.gdb_cut.specs.Cut.{picks}
 use Rattle.gdb_cut.specs.Cut.{filter, cut}
 use Rattle.gdb_cut.specs.CutLaws.{filter-append, cut-cut, cut-comm, cut-lengths, cut-shorter}
 use Rattle.gdb_join.specs.Join.{join, joinOf}
@@ -33,7 +34,7 @@ use Rattle.gdb_join.specs.JoinTraces.{join-assoc, join-bare, join-longer}
 use Rattle.gdb_algebra.specs.Plan.{Plan, file, cutting, joining, value, HasRoom, bareOpening, result, returned, Done, Same, Given, JoinsFit, OutputsFit}
 use Rattle.gdb_algebra.specs.PlanLaws.{lines-of, runs, same-value, bare-given, returns-length}
 use Rattle.gdb_algebra.specs.Standing.{framesOf, StandsIn, HoldsFrames, ExactlyOne, holds-frames, in-one}
-use Rattle.gdb_cut.specs.declared.Selection.{Selection}
+use Rattle.gdb_select.specs.declared.Selection.{Selection}
 
 -- a cut of a join, on traces
 cut-join : (c : meant.Selection) (t u : Trace) → cut c (join t u) ≡ join (cut c t) (cut c u)

@@ -14,10 +14,10 @@ use Rattle.gdb_format.specs.Trace.{Trace, traceOf, opening, encode}
 use Rattle.gdb_format.specs.Decode.{read}
 use Rattle.gdb_format.specs.declared.Settings.{Settings}
 use Rattle.gdb_format.specs.declared.Format.{Format}
-use Rattle.gdb_cut.specs.Selection.{meaning, valid}
+use Rattle.gdb_select.specs.Selection.{meaning, valid}
 use Rattle.gdb_cut.specs.Cut.{cut, cutOf}
 use Rattle.gdb_join.specs.Join.{join, joinOf}
-use Rattle.gdb_cut.specs.declared.Selection.{Selection}
+use Rattle.gdb_select.specs.declared.Selection.{Selection}
 
 pub data Plan : Type 0 where
   file : List ℕ → Trace → Plan  -- a file, and the trace that it holds

@@ -16,7 +16,7 @@ use Rattle.gdb_format.specs.Exactness.{read-exactness}
 use Rattle.gdb_format.specs.declared.Settings.{Settings}
 use Rattle.gdb_format.specs.declared.Format.{Format}
 use Rattle.gdb_frames.specs.File.{File, file-of, read-file}
-use Rattle.gdb_cut.specs.Selection.{meaning}
+use Rattle.gdb_select.specs.Selection.{meaning}
 use Rattle.gdb_cut.specs.Cut.{cut, cutOf}
 use Rattle.gdb_cut.specs.CutLaws.{layout-cut, cut-call}
 use Rattle.gdb_join.specs.Join.{join, bare, joinOf}

@@ -18,7 +18,8 @@ use Rattle.gdb_format.specs.Layout.{FrameFits}
 use Rattle.gdb_format.specs.Decode.{decode}
 use Rattle.gdb_format.specs.declared.Format.{Format}
 use Rattle.gdb_frames.specs.File.{File, decode-file}
-use Rattle.gdb_cut.specs.Selection.{Selection, selects, picks, opposite}
+use Rattle.gdb_select.specs.Selection.{Selection, selects, opposite}
+use Rattle.gdb_cut.specs.Cut.{picks}
 use Rattle.gdb_cut.specs.Cut.{filter, cut}
 use Rattle.gdb_cut.specs.CutLaws.{picks-other}
 

@@ -26,10 +26,10 @@ use Rattle.gdb_format.specs.declared.Settings.{Settings}
 use Rattle.gdb_format.specs.declared.Format.{Format}
 use Rattle.gdb_read.specs.Steps.{Summary, summaryOf, readSeen}
 use Rattle.gdb_frames.specs.File.{File, WasRead, frames-behind, start-within, opening-front, told-front}
-use Rattle.gdb_cut.specs.Selection.{Selection, selects, picks, meaning, valid}
-use Rattle.gdb_cut.specs.Cut.{filter, cut, cutOf}
+use Rattle.gdb_select.specs.Selection.{Selection, selects, meaning, valid}
+use Rattle.gdb_cut.specs.Cut.{filter, picks, cut, cutOf}
 use Rattle.gdb_cut.specs.Kept.{keptOf, kept, Heads, cutResult, cutLength}
-use Rattle.gdb_cut.specs.declared.Selection as lent
+use Rattle.gdb_select.specs.declared.Selection as lent
 
 -- ---- refusals
 

@@ -18,7 +18,7 @@ use Rattle.gdb_format.specs.Decode.{frameHead}
 use Rattle.gdb_format.specs.ExactFrame.{exact-head, takes-head}
 use Rattle.gdb_format.specs.declared.Format.{Format}
 use Rattle.gdb_read.specs.Steps.{Row, headSeen}
-use Rattle.gdb_cut.specs.Selection.{Selection, selects}
+use Rattle.gdb_select.specs.Selection.{Selection, selects}
 use Rattle.gdb_cut.specs.Kept.{keptOf, kept, Heads}
 
 one-kept : (f : Format) (t : Bool) (h : ℕ × List ℕ) (w : List ℕ) (l : List (ℕ × List ℕ)) → putData f h ≡ w

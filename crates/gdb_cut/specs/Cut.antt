@@ -4,11 +4,11 @@ use mathlib.Core.Bool.{Bool, cond}
 use Prim.Native.Nat.{ℕ}
 use mathlib.Core.List.{List, [], _∷_}
 use Rattle.fields.specs.Answer.{Answer, accepted, refused, next}
-use Rattle.gdb_format.specs.Trace.{Trace, withFrames, encode}
+use Rattle.gdb_format.specs.Trace.{Frame, Trace, withFrames, encode}
 use Rattle.gdb_format.specs.Decode.{read}
 use Rattle.gdb_format.specs.declared.Settings.{Settings}
-use Rattle.gdb_cut.specs.Selection.{Selection, picks, selectionOf}
-use Rattle.gdb_cut.specs.declared.Selection as lent
+use Rattle.gdb_select.specs.Selection.{Selection, selects, selectionOf}
+use Rattle.gdb_select.specs.declared.Selection as lent
 use Rattle.gdb_cut.specs.declared.EditAnswer.{EditAnswer}
 use Rattle.gdb_cut.specs.declared.EditAnswer.the-variants.{Written, Refused}
 
@@ -17,6 +17,9 @@ use Rattle.gdb_cut.specs.declared.EditAnswer.the-variants.{Written, Refu
 abbrev pub filter : {A : Type 0} → (A → Bool) → List A → List A
 filter p [] = []
 filter p (x ∷ xs) = cond (p x) (x ∷ filter p xs) (filter p xs)
+
+abbrev pub picks : Selection → Frame → Bool
+picks c r = selects c (r .tracepoint)
 
 -- the opening, then every selected frame, bytes and order unchanged
 abbrev pub cut : Selection → Trace → Trace

@@ -16,9 +16,10 @@ use Rattle.gdb_format.specs.declared.Settings.{Settings}
 use Rattle.gdb_format.specs.declared.Format.{Format}
 use Rattle.gdb_read.specs.Steps.{length-encode}
 use Rattle.gdb_frames.specs.File.{File, read-file}
-use Rattle.gdb_cut.specs.Selection.{Selection, inSome, picks, opposite, meaning, valid, against}
-use Rattle.gdb_cut.specs.Cut.{filter, cut, cutOf}
-use Rattle.gdb_cut.specs.declared.Selection as lent
+use Rattle.gdb_select.specs.Selection.{Selection, opposite, meaning, valid}
+use Rattle.gdb_select.specs.SelectionLaws.{selects-other}
+use Rattle.gdb_cut.specs.Cut.{picks, filter, cut, cutOf}
+use Rattle.gdb_select.specs.declared.Selection as lent
 
 -- ---- lists
 
@@ -83,19 +84,9 @@ cut-cut a b t = rw (filter-filter (picks a) (picks b) (t .frames))
 pub cut-comm : (a b : Selection) (t : Trace) → cut b (cut a t) ≡ cut a (cut b t)
 cut-comm a b t = cut-cut a b t ∙ ap (withFrames t) (filter-same _ _ (λ r. and-comm (picks a r) (picks b r)) (t .frames)) ∙ sym (cut-cut b a t)
 
-beq-not : (k b : Bool) → Bool·beq (not k) b ≡ not (Bool·beq k b)
-beq-not true true = refl
-beq-not true false = refl
-beq-not false true = refl
-beq-not false false = refl
-
--- the lent selection that `opposite` answers means the opposite
-pub against-means : (s : lent.Selection) → meaning (against s) ≡ opposite (meaning s)
-against-means s = refl
-
 -- the opposite selects just the others
 pub picks-other : (c : Selection) (r : Frame) → picks (opposite c) r ≡ not (picks c r)
-picks-other c r = beq-not (c .keep) (inSome (c .ranges) (r .tracepoint))
+picks-other c r = selects-other c (r .tracepoint)
 
 -- a cut is no longer than its trace
 pub cut-shorter : (f : Format) (c : Selection) (t : Trace) → length (encode f (cut c t)) ≤ length (encode f t)

@@ -10,9 +10,9 @@ use Rattle.fields.specs.Reader.{toEnd}
 use Rattle.gdb_format.specs.Trace.{putData}
 use Rattle.gdb_format.specs.Decode.{frameHead}
 use Rattle.gdb_format.specs.declared.Format.{Format}
-use Rattle.gdb_cut.specs.Selection.{Selection, selects, meaning}
+use Rattle.gdb_select.specs.Selection.{Selection, selects, meaning}
 use Rattle.gdb_cut.specs.Cut.{filter}
-use Rattle.gdb_cut.specs.declared.Selection as lent
+use Rattle.gdb_select.specs.declared.Selection as lent
 
 -- the bytes of the heads that are kept, with their data
 abbrev pub keptOf : Format → Selection → Answer (List (ℕ × List ℕ)) → List ℕ

@@ -1,4 +1,3 @@
-pub mod Selection
 pub mod Cut
 pub mod Kept
 pub mod CutLaws

@@ -7,9 +7,9 @@ use Rattle.fields.specs.Output.{answer}
 use Rattle.fields.specs.Refuses.{Refuses, OneOf, refuses-never, refuses-with, refuses-cond, refuses-next, refuses-in, refuses-answer}
 use Rattle.gdb_format.specs.Numbers.{fileNumbers, file-numbers}
 use Rattle.gdb_format.specs.declared.Settings.{Settings}
-use Rattle.gdb_cut.specs.Selection.{valid}
+use Rattle.gdb_select.specs.Selection.{valid}
 use Rattle.gdb_cut.specs.Cut.{cutOf}
-use Rattle.gdb_cut.specs.declared.Selection as lent
+use Rattle.gdb_select.specs.declared.Selection as lent
 
 -- 1 to 10, and 11
 abbrev pub cutNumbers : List ℕ

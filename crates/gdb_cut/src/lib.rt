@@ -1,97 +1,28 @@
-// Selections, and cutting GDB traces into an output that the caller lends.
+// Cutting GDB traces into an output that the caller lends.
 ghost use mathlib.Core.Path.{_≡_};
 ghost use mathlib.Core.List.{_++_};
 ghost use Prim.Native.Nat.{_≤_};
 ghost use lib.Dec.{leb};
 ghost use lib.ListN.{length, drop};
 ghost use Rattle.fields.specs.Output.{Lent};
-ghost use Rattle.gdb_cut.specs.Selection.{inSome, selects, meaning, valid, against};
 ghost use Rattle.gdb_cut.specs.Cut.{cutOf, editMeaning};
 ghost use Rattle.gdb_cut.specs.Kept.{Heads, cutResult, cutLength};
 use gdb_format::Format;
 use gdb_format::Settings;
 use gdb_read::FrameStep;
 use gdb_read::Reading;
+use gdb_select::Selection;
 use refusals::BAD_ARGUMENT;
 use refusals::NO_ROOM;
-
-// Tracepoint numbers from low to high, both among them.
-#[repr(C)]
-pub struct Range {
-    pub low: u16,
-    pub high: u16,
-}
-
-// The numbers in one of the first `count` ranges, or with `keep` false the others. The ranges behind are no part of it.
-pub struct Selection {
-    pub ranges: [Range; 8],
-    pub count: usize,
-    pub keep: bool,
-}
 
 pub enum EditAnswer {
     Written(usize),
     Refused(u8),
 }
 
-// The selection of the others.
-pub fn opposite(selection: Selection) -> Selection
-    ensures { λ r. ⌜ r ≡ against selection ⌝ }
-{
-    let mut other = selection;
-    other.keep = !selection.keep;
-    other
-}
-
-fn is_valid(selection: Selection) -> bool
-    ensures { λ r. ⌜ r ≡ valid selection ⌝ }
-{
-    let count = selection.count;
-    if 8 < count {
-        return false;
-    }
-    let mut i: usize = 0;
-    while i < count {
-        let r = selection.ranges[i];
-        if r.high < r.low {
-            return false;
-        }
-        i += 1;
-    }
-    true
-}
-
-fn in_some(selection: Selection, n: u16) -> bool
-    requires { ⌜ selection .count ≤ 8 ⌝ }
-    ensures { λ r. ⌜ r ≡ inSome (meaning selection .ranges) n ⌝ }
-{
-    let count = selection.count;
-    let mut i: usize = 0;
-    while i < count {
-        let r = selection.ranges[i];
-        if r.low <= n {
-            if n <= r.high {
-                return true;
-            }
-        }
-        i += 1;
-    }
-    false
-}
-
-fn is_selected(selection: Selection, n: u16) -> bool
-    requires { ⌜ selection .count ≤ 8 ⌝ }
-    ensures { λ r. ⌜ r ≡ selects (meaning selection) n ⌝ }
-{
-    if in_some(selection, n) {
-        return selection.keep;
-    }
-    !selection.keep
-}
-
 // How long the cut is of a file whose frames start at `start`.
 fn cut_length(format: Format, file: &[u8], selection: Selection, start: usize) -> usize
-    requires { ⌜ (start ≤ length (now file)) × Heads format (drop start (now file)) × (selection .count ≤ 8) ⌝ }
+    requires { ⌜ (start ≤ length (now file)) × Heads format (drop start (now file)) ⌝ }
     ensures { λ r. ⌜ r ≡ cutLength format start (now (file .entry)) selection ⌝ }
 {
     let mut at = start;
@@ -105,7 +36,7 @@ fn cut_length(format: Format, file: &[u8], selection: Selection, start: usize) -
                 return len;
             }
             FrameStep::Frame { head, next } => {
-                if is_selected(selection, head.tracepoint) {
+                if gdb_select::is_selected(selection, head.tracepoint) {
                     len += next - at;
                 }
                 at = next;
@@ -116,7 +47,7 @@ fn cut_length(format: Format, file: &[u8], selection: Selection, start: usize) -
 
 // Whether the cut fits into `room` bytes. It is no longer than the file, so that where the file fits the frames need no walk.
 fn has_room(format: Format, file: &[u8], selection: Selection, start: usize, room: usize) -> bool
-    requires { ⌜ (start ≤ length (now file)) × Heads format (drop start (now file)) × (selection .count ≤ 8) ⌝ }
+    requires { ⌜ (start ≤ length (now file)) × Heads format (drop start (now file)) ⌝ }
     ensures { λ r. ⌜ r ≡ leb (cutLength format start (now (file .entry)) selection) room ⌝ }
 {
     if file.len() <= room {
@@ -133,7 +64,7 @@ fn write_cut(
     start: usize,
     out: &mut [u8],
 ) -> usize
-    requires { ⌜ (start ≤ length (now file)) × Heads format (drop start (now file)) × (selection .count ≤ 8) × (cutLength format start (now file) selection ≤ length (now out)) ⌝ }
+    requires { ⌜ (start ≤ length (now file)) × Heads format (drop start (now file)) × (cutLength format start (now file) selection ≤ length (now out)) ⌝ }
     ensures { λ r. ⌜ (r ≡ cutLength format start (now (file .entry)) selection) × (now (out .exit) ≡ cutResult format start (now (file .entry)) selection ++ drop r (now (out .entry))) ⌝ }
 {
     bytes::copy(&file[..start], out);
@@ -148,7 +79,7 @@ fn write_cut(
                 return len;
             }
             FrameStep::Frame { head, next } => {
-                if is_selected(selection, head.tracepoint) {
+                if gdb_select::is_selected(selection, head.tracepoint) {
                     bytes::copy(&file[at..next], &mut out[len..]);
                     len += next - at;
                 }
@@ -162,7 +93,7 @@ fn write_cut(
 pub fn cut(settings: Settings, file: &[u8], selection: Selection, out: &mut [u8]) -> EditAnswer
     ensures { λ r. ⌜ Lent (cutOf settings selection (now (file .entry))) (now (out .entry)) (editMeaning r) (now (out .exit)) ⌝ }
 {
-    if !is_valid(selection) {
+    if !gdb_select::is_valid(selection) {
         return EditAnswer::Refused(BAD_ARGUMENT);
     }
     match gdb_read::read(settings, file) {

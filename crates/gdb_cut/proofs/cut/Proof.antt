@@ -4,15 +4,13 @@ use mathlib.Core.Path.{_≡_, sym, ap, _∙_}
 use mathlib.Core.Bool.{true}
 use mathlib.Core.List.{List, _++_}
 use lib.ListN.{length, take, drop}
-use lib.Dec.{leb}
 use Rattle.fields.specs.Given.{at-case}
 use borrow.Author.Tests.{not-true, not-false, leb-true, leb-false}
 use Rattle.refusals.specs.Refusal.{badArgument}
-use Rattle.fields.specs.Word.{and-inv}
 use Rattle.fields.specs.Answer.{accepted}
 use Rattle.gdb_read.specs.Steps.{Summary, readingMeaning, openedMeaning}
 use Rattle.gdb_frames.specs.File.{WasRead, read-given}
-use Rattle.gdb_cut.specs.Selection.{valid, inOrder, meaning}
+use Rattle.gdb_select.specs.Selection.{valid}
 use Rattle.gdb_cut.specs.Cut.{cutOf}
 use Rattle.gdb_cut.specs.Kept.{cutResult, cutLength}
 use Rattle.fields.specs.Output.{lent-written, lent-full, lent-refused}
@@ -51,11 +49,6 @@ is-good c =
     let at-else1 : tie.Else1 = search in
     let at-is-valid : tie.After-is-valid = search in
     sym (at-is-valid .is-valid .ensures) ∙ not-false _ (at-else1 .if1 .left)
-
-few : (c : tie.After-front) → to-start c .args .selection .count ≤ 8
-few c =
-    let a = to-start c .args in
-    leb-true (a .selection .count) 8 ((and-inv (leb (a .selection .count) 8) (inOrder (meaning (a .selection) .ranges)) (is-good c)) .0)
 
 -- what is written, and how long it is
 abbrev result : tie.After-front → List ℕ
@@ -108,12 +101,12 @@ returns-4 c =
     (w .ensures .0 ∙ sym (long h)) (omega (arith, long h, room (search))) (w .ensures .1)
 
 has-room-requires : tie.Need-has-room-requires
-has-room-requires c κs = (start-there (was-read c) (is-front c), heads-there (was-read c) (is-front c), few c)
+has-room-requires c κs = (start-there (was-read c) (is-front c), heads-there (was-read c) (is-front c))
 
 write-cut-requires : tie.Need-write-cut-requires
 write-cut-requires c κs =
     let h : tie.After-front = search in
-    (start-there (was-read h) (is-front h), heads-there (was-read h) (is-front h), few h, room (search))
+    (start-there (was-read h) (is-front h), heads-there (was-read h) (is-front h), room (search))
 
 pub cut-spec : {M : Type 1} → statement M
 cut-spec =

@@ -4,7 +4,7 @@ use mathlib.Core.Path.{_≡_, refl, sym, ap, _∙_}
 use Prim.Native.Nat.{_≤_, _-_, _+_}
 use lib.ListN.{length, drop}
 use Rattle.gdb_read.specs.Steps.{headMeaning, frameMeaning}
-use Rattle.gdb_cut.specs.Selection.{meaning}
+use Rattle.gdb_select.specs.Selection.{meaning}
 use Rattle.gdb_cut.specs.Kept.{kept, Heads, cutLength}
 use Rattle.gdb_cut.proofs.Walk.{Passed, passed, kept-end, heads-never, kept-no, length-yes}
 use Rattle.fields.specs.Given.{bytes-given, at-case}
@@ -71,9 +71,6 @@ returns-2 c =
     heads-never (a .format) (a .file .now) (h .loop .at) (c .enum-told2 .given .0 .0) (h .loop .inv .1)
     (at-case frameMeaning (c .enum-told2 .given .1) (search))
 
-is-selected-requires : tie.Need-is-selected-requires Inv-loop μ-loop
-is-selected-requires c κs = Begun (search) .pre .2
-
 sub-len : tie.Need-sub-len Inv-loop μ-loop
 sub-len c = let p = met (search) in omega (arith, p .past)
 
@@ -90,4 +87,4 @@ pub cut-length-spec : {M : Type 1} → statement M
 cut-length-spec =
     tie.close
     (tie.spec Inv-loop μ-loop loop-holds (λ c κs. search needs) (λ c. search needs) returns (λ c. search needs) returns-2 (λ c. search needs)
-    is-selected-requires sub-len add-len loop-less loop-again loop-less-2 loop-again-2)
+    (λ c κs. search needs) sub-len add-len loop-less loop-again loop-less-2 loop-again-2)

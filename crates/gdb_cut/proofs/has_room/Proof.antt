@@ -1,7 +1,7 @@
 -- `gdb_cut::has_room` meets its contract. Assumes nothing.
 use mathlib.Core.Path.{ap}
 use lib.Dec.{leb}
-use Rattle.gdb_cut.specs.Selection.{meaning}
+use Rattle.gdb_select.specs.Selection.{meaning}
 use Rattle.gdb_cut.proofs.Cuts.{room-for-file}
 use Rattle.fields.specs.Given.{bytes-given}
 use borrow.Author.Needs.{needs}

@@ -8,7 +8,7 @@ use lib.ListN.{length, take, drop, length-take, length-drop}
 use lib.Seq.{length-take-le}
 use Prim.Native.Nat.{ℕ}
 use Rattle.gdb_read.specs.Steps.{headMeaning, frameMeaning}
-use Rattle.gdb_cut.specs.Selection.{meaning}
+use Rattle.gdb_select.specs.Selection.{meaning}
 use Rattle.gdb_cut.specs.Kept.{kept, Heads, cutResult, cutLength}
 use Rattle.gdb_cut.proofs.Walk.{Passed, passed, kept-end, heads-never, kept-yes, kept-no, part-long, length-yes}
 use Rattle.fields.specs.Copies.{first-out, first-rest, first-long, out-long, lengths, more-long, more-out}
@@ -99,8 +99,8 @@ room h =
     let w : List ℕ = take (a .start) (a .file .now) in
     let n : length w ≡ a .start = length-take-le (a .start) (a .file .now) (q .pre .0) in
     let t = lengths (l .inv .2) (k .last .1 .0) (l .out) (l .len) (l .inv .3) (l .inv .4) _ w _ (l .inv .5) in
-    let f = first-long w (a .out .now) (k .last .1 .0) (k .result) (k .ensures .0) (k .ensures .1) (omega (arith, n, q .pre .3)) in
-    (omega (arith, t, n), out-long (l .inv .2) (k .last .1 .0) (l .out) (l .len) (l .inv .3) (l .inv .4) (omega (arith, t, n, f, q .pre .3)) ∙ f)
+    let f = first-long w (a .out .now) (k .last .1 .0) (k .result) (k .ensures .0) (k .ensures .1) (omega (arith, n, q .pre .2)) in
+    (omega (arith, t, n), out-long (l .inv .2) (k .last .1 .0) (l .out) (l .len) (l .inv .3) (l .inv .4) (omega (arith, t, n, f, q .pre .2)) ∙ f)
 
 returns : tie.Need-returns Inv-loop μ-loop
 returns c =
@@ -132,16 +132,13 @@ slice-aggregate-copy : tie.Need-slice-aggregate-copy Inv-loop μ-loop
 slice-aggregate-copy c = let q : tie.Start Inv-loop μ-loop = search in sym (length-take-le (q .args .start) (q .args .file .now) (q .pre .0))
 
 copy-requires : tie.Need-copy-requires Inv-loop μ-loop
-copy-requires c κs = let q : tie.Start Inv-loop μ-loop = search in omega (arith, length-take-le (q .args .start) (q .args .file .now) (q .pre .0), q .pre .3)
+copy-requires c κs = let q : tie.Start Inv-loop μ-loop = search in omega (arith, length-take-le (q .args .start) (q .args .file .now) (q .pre .0), q .pre .2)
 
 same-length : tie.Need-same-length Inv-loop μ-loop
 same-length c = (room (search)) .1
 
 same-length-2 : tie.Need-same-length-2 Inv-loop μ-loop
 same-length-2 c = (room (search)) .1
-
-is-selected-requires : tie.Need-is-selected-requires Inv-loop μ-loop
-is-selected-requires c κs = (Begun (search)) .pre .2
 
 sub-copy : tie.Need-sub-copy Inv-loop μ-loop
 sub-copy c = omega (arith, (met (search)) .past)
@@ -153,10 +150,10 @@ part-copy-end : tie.Need-part-copy-end Inv-loop μ-loop
 part-copy-end c = (met (search)) .inside
 
 sub-copy-2 : tie.Need-sub-copy-2 Inv-loop μ-loop
-sub-copy-2 c = let h : Loop = search in omega (arith, room h, (Begun h) .pre .3)
+sub-copy-2 c = let h : Loop = search in omega (arith, room h, (Begun h) .pre .2)
 
 part-copy-start-2 : tie.Need-part-copy-start-2 Inv-loop μ-loop
-part-copy-start-2 c = let h : Loop = search in omega (arith, room h, (Begun h) .pre .3)
+part-copy-start-2 c = let h : Loop = search in omega (arith, room h, (Begun h) .pre .2)
 
 copy-requires-2 : tie.Need-copy-requires-2 Inv-loop μ-loop
 copy-requires-2 c κs =
@@ -165,7 +162,7 @@ copy-requires-2 c κs =
     let q = Begun h in
     let p = met (search) in
     let z = length-yes p (meaning (q .args .selection)) (sym (at-is-selected .is-selected .ensures) ∙ c .before .before .if1 .taken) in
-    simp (length-take, length-drop) (omega (arith, room h, q .pre .3, z, p .past, p .inside))
+    simp (length-take, length-drop) (omega (arith, room h, q .pre .2, z, p .past, p .inside))
 
 sub-len : tie.Need-sub-len Inv-loop μ-loop
 sub-len c = omega (arith, (met (search)) .past)
@@ -178,7 +175,7 @@ add-len c =
     let q = Begun h in
     let p = met (search) in
     let z = length-yes p (meaning (q .args .selection)) (sym (at-is-selected .is-selected .ensures) ∙ at-then1 .if1 .taken) in
-    omega (arith, room h, q .pre .3, z)
+    omega (arith, room h, q .pre .2, z)
 
 loop-less : tie.Need-loop-less Inv-loop μ-loop
 loop-less c = let p = met (search) in omega (arith, p .past, p .inside)
@@ -190,5 +187,5 @@ pub write-cut-spec : {M : Type 1} → statement M
 write-cut-spec =
     tie.close
     (tie.spec Inv-loop μ-loop slice-aggregate-copy copy-requires loop-holds (λ c κs. search needs) (λ c. search needs) same-length returns
-    (λ c. search needs) same-length-2 returns-2 (λ c. search needs) is-selected-requires sub-copy part-copy-start part-copy-end sub-copy-2
+    (λ c. search needs) same-length-2 returns-2 (λ c. search needs) (λ c κs. search needs) sub-copy part-copy-start part-copy-end sub-copy-2
     part-copy-start-2 (λ c. search needs) copy-requires-2 sub-len add-len loop-less loop-again loop-less-2 loop-again-2)

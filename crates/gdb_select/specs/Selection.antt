@@ -7,9 +7,8 @@ use lib.ListN.{take}
 use lib.Dec.{leb}
 use Rattle.refusals.specs.Refusal.{badArgument}
 use Rattle.fields.specs.Answer.{Answer, accepted, refused}
-use Rattle.gdb_format.specs.Trace.{Frame}
-use Rattle.gdb_cut.specs.declared.Range.{Range}
-use Rattle.gdb_cut.specs.declared.Selection as lent
+use Rattle.gdb_select.specs.declared.Range.{Range}
+use Rattle.gdb_select.specs.declared.Selection as lent
 
 -- inclusive ranges of tracepoint numbers, and a sense: keep selects the numbers in some range, drop the others
 pub record Selection : Type 0 where
@@ -22,9 +21,6 @@ inSome (r ∷ rs) n = (leb (r .0) n && leb n (r .1)) || inSome rs n
 
 abbrev pub selects : Selection → ℕ → Bool
 selects c n = Bool·beq (c .keep) (inSome (c .ranges) n)
-
-abbrev pub picks : Selection → Frame → Bool
-picks c r = selects c (r .tracepoint)
 
 -- the opposite has the other sense
 abbrev pub opposite : Selection → Selection

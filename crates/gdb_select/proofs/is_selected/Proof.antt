@@ -1,9 +1,9 @@
--- `gdb_cut::is_selected` meets its contract. Assumes nothing.
+-- `gdb_select::is_selected` meets its contract. Assumes nothing.
 use mathlib.Core.Path.{sym, _∙_}
-use Rattle.gdb_cut.proofs.Ranges.{sense-in, sense-out}
+use Rattle.gdb_select.proofs.Ranges.{sense-in, sense-out}
 use borrow.Author.Needs.{needs}
-use Rattle.gdb_cut.proofs.is_selected.Statement.{statement}
-use Rattle.gdb_cut.proofs.is_selected.Tie as tie
+use Rattle.gdb_select.proofs.is_selected.Statement.{statement}
+use Rattle.gdb_select.proofs.is_selected.Tie as tie
 
 returns : tie.Need-returns
 returns c = sense-in _ _ (sym (c .before .in-some .ensures) ∙ c .if1 .taken)

@@ -1,0 +1,10 @@
+-- `gdb_select::opposite` meets its contract. Assumes nothing.
+use mathlib.Core.Path.{refl}
+use Rattle.gdb_select.proofs.opposite.Statement.{statement}
+use Rattle.gdb_select.proofs.opposite.Tie as tie
+
+returns : tie.Need-returns
+returns c = refl
+
+pub opposite-spec : {M : Type 1} → statement M
+opposite-spec = tie.close (tie.spec returns)
