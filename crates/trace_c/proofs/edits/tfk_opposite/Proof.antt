@@ -2,7 +2,7 @@
 use mathlib.Core.Path.{ap, _∙_}
 use borrow.Author.Needs.{needs}
 use Rattle.gdb_cut.specs.Selection.{against}
-use Rattle.trace_flat.specs.Flat.{flatSelection}
+use Rattle.gdb_flat.specs.Flat.{flatSelection}
 use Rattle.trace_c.proofs.edits.tfk_opposite.Statement.{statement}
 use Rattle.trace_c.proofs.edits.tfk_opposite.Tie as tie
 

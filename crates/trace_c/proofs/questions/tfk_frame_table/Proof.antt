@@ -55,14 +55,14 @@ use Rattle.gdb_table.proofs.table as table
 use Rattle.gdb_table.proofs.table.Symbol as table-def
 use Rattle.gdb_table.proofs.table.Symbol.{name as #gdb-table·table}
 use Rattle.gdb_table.proofs.table.Met as table-thm
-use Rattle.trace_flat.specs.Flat.{flatCount, FlatLent}
-use Rattle.trace_flat.specs.declared.questions.Count.{Count}
-use Rattle.trace_flat.proofs.questions.Count as Co
-use Rattle.trace_flat.proofs.questions.Count.Laws as Co′
-use Rattle.trace_flat.proofs.questions.flat_table as flat
-use Rattle.trace_flat.proofs.questions.flat_table.Symbol as flat-def
-use Rattle.trace_flat.proofs.questions.flat_table.Symbol.{name as #trace-flat·questions·flat-table}
-use Rattle.trace_flat.proofs.questions.flat_table.Met as flat-thm
+use Rattle.gdb_flat.specs.Flat.{flatCount, FlatLent}
+use Rattle.gdb_flat.specs.declared.questions.Count.{Count}
+use Rattle.gdb_flat.proofs.questions.Count as Co
+use Rattle.gdb_flat.proofs.questions.Count.Laws as Co′
+use Rattle.gdb_flat.proofs.questions.flat_table as flat
+use Rattle.gdb_flat.proofs.questions.flat_table.Symbol as flat-def
+use Rattle.gdb_flat.proofs.questions.flat_table.Symbol.{name as #gdb-flat·questions·flat-table}
+use Rattle.gdb_flat.proofs.questions.flat_table.Met as flat-thm
 use Rattle.trace_c.proofs.questions.tfk_frame_table.Key.{name as #trace-c·questions·tfk-frame-table}
 use Rattle.trace_c.proofs.questions.tfk_frame_table as f
 use Rattle.trace_c.proofs.questions.tfk_frame_table.Statement as stated
@@ -152,7 +152,7 @@ module _ {M : Type 1} (𝓤 : URA M) (H : Heap 𝓤) (A : Atoms 𝓤) (W : Given
       qed W (‵ ftrue ∷ []) ∵ nothing ! $ owned ! An.the-row (Is An.the-row) (EL.makes An.the-type An′.the-plain 𝓤 H A) r _ is $ fjoin ! $ move ! (1 ∷ 0 ∷ []) $ join ! $ frame ! $ done !
 
   module _ (C : Calls 𝓤 H) (Λ : Loops 𝓤 H) (fm : FmC 𝓤 H (W .laws) C) (known-table : Triple 𝓤 (C #gdb-table·table) (TableC 𝓤 H A mem run))
-      (known-flat : Triple 𝓤 (C #trace-flat·questions·flat-table) (FlatC 𝓤 H A mem run)) where
+      (known-flat : Triple 𝓤 (C #gdb-flat·questions·flat-table) (FlatC 𝓤 H A mem run)) where
     walk : ent 𝓤 (onEntry 𝓤 H A f.signature (κ, (κ′, tt)) (q, (q′, tt)) a vals) (WpFn 𝓤 H C Λ code.function (gv ∷ sv ∷ ov ∷ []) Post)
     walk =
         qed W (Tokens ∷ Owned ∷ []) ∵ enter ! C Λ code.function (gv ∷ sv ∷ ov ∷ []) _ $
@@ -186,7 +186,7 @@ module _ {M : Type 1} (𝓤 : URA M) (H : Heap 𝓤) (A : Atoms 𝓤) (W : Given
         keep ! (1 ∷ 2 ∷ []) $ by ! (exits k (zs .1 .1 .0) (subst (Is Co.the-row k) (LL.tells Co.the-type Co′.the-laws k _ is′) is′) l (record { answers = ek ∙ ap flatCount (e .answers); leaves = e .leaves })))))))))))))))))))
 
 module _ {M : Type 1} (𝓤 : URA M) (H : Heap 𝓤) (A : Atoms 𝓤) (W : Given 𝓤 H A) (mem : Memory → SProp 𝓤) (run : Routine → Fun 𝓤) (𝓣 : Tables 𝓤 H)
-    (known-table : Triple 𝓤 (𝓣 .C #gdb-table·table) (TableC 𝓤 H A mem run)) (known-flat : Triple 𝓤 (𝓣 .C #trace-flat·questions·flat-table) (FlatC 𝓤 H A mem run)) where
+    (known-table : Triple 𝓤 (𝓣 .C #gdb-table·table) (TableC 𝓤 H A mem run)) (known-flat : Triple 𝓤 (𝓣 .C #gdb-flat·questions·flat-table) (FlatC 𝓤 H A mem run)) where
   table-walks : Walks 𝓤 H A f.ended stayed (WpFn 𝓤 H (𝓣 .C) (𝓣 .Λ) code.function) (f.clauses 𝓤 H A mem run)
   table-walks = walked 𝓤 H A f.ended stayed (f.clauses 𝓤 H A mem run) (WpFn 𝓤 H (𝓣 .C) (𝓣 .Λ) code.function)
       (λ κs. (LL.vals Se.the-type Se′.the-laws, (slice-vals, (slice-vals, tt))))
@@ -208,4 +208,4 @@ tfk-frame-table-spec 𝓤 H 𝓜 𝓖 𝓡 =
     (tables 𝓤 H 𝓜 𝓡 code.env .C) (tables 𝓤 H 𝓜 𝓡 code.env .Λ) #trace-c·questions·tfk-frame-table code.function (code.unfolded 𝓤 H 𝓜 𝓡)
     (table-meets 𝓤 H (𝓖 .A) (givenOf 𝓤 H 𝓜 𝓖) (𝓜 .mem) (𝓡 .run) (tablesOf 𝓤 H 𝓜 (tables 𝓤 H 𝓜 𝓡 code.env))
     (cited 𝓤 H (TableC 𝓤 H (𝓖 .A) (𝓜 .mem) (𝓡 .run)) 𝓜 𝓡 code.env #gdb-table·table table-def.routine code.calls-gdb-table·table (table-thm.met 𝓤 H 𝓜 𝓖 𝓡))
-    (cited 𝓤 H (FlatC 𝓤 H (𝓖 .A) (𝓜 .mem) (𝓡 .run)) 𝓜 𝓡 code.env #trace-flat·questions·flat-table flat-def.routine code.calls-trace-flat·questions·flat-table (flat-thm.met 𝓤 H 𝓜 𝓖 𝓡)))
+    (cited 𝓤 H (FlatC 𝓤 H (𝓖 .A) (𝓜 .mem) (𝓡 .run)) 𝓜 𝓡 code.env #gdb-flat·questions·flat-table flat-def.routine code.calls-gdb-flat·questions·flat-table (flat-thm.met 𝓤 H 𝓜 𝓖 𝓡)))
