@@ -1,18 +1,16 @@
 -- The answers about GDB traces as C has them: the refusal 0 and the values, or the refusal's number and zeros.
 -- Assumes nothing: these are definitions.
-use mathlib.Core.Path.{_≡_}
+use mathlib.Core.Path.{_≡_, ap, _∙_}
 use mathlib.Core.Bool.{cond, not}
 use Prim.Native.Nat.{ℕ}
 use mathlib.Core.List.{List}
 use lib.IntN.{ℤ, pos}
-use lib.ListN.{length}
 use lib.Dec.{eqb}
 use Rattle.fields.specs.Answer.{Answer, accepted, refused}
-use Rattle.gdb_format.specs.declared.Settings.{Settings}
 use Rattle.gdb_format.specs.declared.LineKind.{LineKind}
 use Rattle.gdb_format.specs.declared.LineKind.the-variants as kind
 use Rattle.gdb_data.specs.Blocks.{Carried, registers, memory, variable}
-use Rattle.fields.specs.Output.{answer, exit}
+use Rattle.fields.specs.Output.{answer, exit, Lent}
 use Rattle.gdb_cut.specs.declared.Selection as edit
 use Rattle.gdb_pair.specs.Pair.{Side, first, second}
 use Rattle.gdb_flat.specs.declared.questions.Count.{Count}
@@ -84,3 +82,8 @@ flatSelection s = record { ranges = s .ranges; count = s .count; keep = cond (s 
 pub record FlatLent {A R : Type 0} (flat : Answer ℕ → R) (x : Answer (List A)) (out : List A) (r : R) (l : List A) : Type 0 where
   pub answers : r ≡ flat (answer x out)
   pub leaves : l ≡ exit x out
+
+-- it answers and leaves what a call does whose answer it makes a struct
+pub flat-lent : {A R : Type 0} (flat : Answer ℕ → R) {x : Answer (List A)} {out l : List A} {n : Answer ℕ} {r : R}
+    → r ≡ flat n → Lent x out n l → FlatLent flat x out r l
+flat-lent flat e h = record { answers = e ∙ ap flat (h .answers); leaves = h .leaves }

@@ -5,13 +5,13 @@ ghost use Rattle.gdb_join.specs.Join.{joinOf};
 ghost use Rattle.gdb_cut.specs.Selection.{against};
 ghost use Rattle.gdb_pair.specs.Pair.{pairPlace, pairVariable};
 ghost use Rattle.gdb_flat.specs.Flat.{flatValue, flatLength, flatPair, selectionIn, flatSelection, FlatLent};
-use gdb_format::Settings;
 use gdb_flat::edits;
 use gdb_flat::edits::Length;
 use gdb_flat::edits::PairPart;
 use gdb_flat::edits::Selection;
 use gdb_flat::questions;
 use gdb_flat::questions::Value;
+use gdb_format::Settings;
 
 #[no_mangle]
 pub extern "C" fn tfk_opposite(selection: Selection) -> Selection

@@ -4,14 +4,14 @@ ghost use Rattle.gdb_frames.specs.Questions.{asked, frameCount, frameData, line
 ghost use Rattle.gdb_blocks.specs.Search.{blockAt, registersAt, memoryAt, variableAt};
 ghost use Rattle.gdb_table.specs.Records.{frameTable};
 ghost use Rattle.gdb_flat.specs.Flat.{flatCount, flatPlace, flatLine, flatBlock, flatValue, FlatLent};
-use gdb_format::Settings;
-use gdb_table::FrameRecord;
 use gdb_flat::questions;
 use gdb_flat::questions::Block;
 use gdb_flat::questions::Count;
 use gdb_flat::questions::Line;
 use gdb_flat::questions::Place;
 use gdb_flat::questions::Value;
+use gdb_format::Settings;
+use gdb_table::FrameRecord;
 
 #[no_mangle]
 pub extern "C" fn tfk_frame_count(settings: Settings, file: &[u8]) -> Count
