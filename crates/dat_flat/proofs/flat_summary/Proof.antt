@@ -8,11 +8,15 @@ use Rattle.dat_flat.proofs.flat_summary.Tie as tie
 
 returns : tie.Need-returns
 unfolding flatSummary
-returns c = c .shown-summary .ensures ∙ ap (λ x. flatSummary (summaryMeaning x)) (sym (c .before .before .answer .given .1))
+returns c =
+    let m : tie.After-answer = search in
+    c .shown-summary .ensures ∙ ap (λ x. flatSummary (summaryMeaning x)) (sym (m .answer .given .1))
 
 returns-2 : tie.Need-returns-2
 unfolding flatSummary
-returns-2 c = c .refused-summary .ensures ∙ ap (λ x. flatSummary (summaryMeaning x)) (sym (c .before .before .answer2 .given .1))
+returns-2 c =
+    let m : tie.After-answer2 = search in
+    c .refused-summary .ensures ∙ ap (λ x. flatSummary (summaryMeaning x)) (sym (m .answer2 .given .1))
 
 pub flat-summary-spec : {M : Type 1} → statement M
 flat-summary-spec = tie.close (tie.spec (λ c. search needs) (λ c κs. search needs) (λ c. search needs) (λ c κs. search needs) returns returns-2)

@@ -5,23 +5,32 @@ use Rattle.dat_flat.proofs.shown_summary.Tie as tie
 
 returns : tie.Need-returns
 returns c =
-    let f = c .before .before .before in
-    let p = f .before .before .before in
+    let order : tie.After-order-number = search in
+    let ending : tie.After-ending-number = search in
+    let page : tie.After-flat-part = search in
+    let event : tie.After-flat-part2 = search in
+    let formats : tie.After-flat-part3 = search in
+    let systems : tie.After-flat-part4 = search in
+    let kallsyms : tie.After-flat-part5 = search in
+    let printk : tie.After-flat-part6 = search in
+    let processes : tie.After-flat-part7 = search in
+    let options : tie.After-flat-part8 = search in
     rw (
-      p .before .before .before .before .order-number .ensures,
-      p .before .before .before .ending-number .ensures,
-      p .before .before .flat-part .ensures,
-      p .before .flat-part2 .ensures,
-      p .flat-part3 .ensures,
-      f .before .before .flat-part4 .ensures,
-      f .before .flat-part5 .ensures,
-      f .flat-part6 .ensures,
-      c .before .before .flat-part7 .ensures,
-      c .before .flat-part8 .ensures,
+      order .order-number .ensures,
+      ending .ending-number .ensures,
+      page .flat-part .ensures,
+      event .flat-part2 .ensures,
+      formats .flat-part3 .ensures,
+      systems .flat-part4 .ensures,
+      kallsyms .flat-part5 .ensures,
+      printk .flat-part6 .ensures,
+      processes .flat-part7 .ensures,
+      options .flat-part8 .ensures,
       c .flat-part9 .ensures,
     )
 
 pub shown-summary-spec : {M : Type 1} → statement M
 shown-summary-spec =
     tie.close
-    (tie.spec (λ c κs. search needs) (λ c κs. search needs) (λ c κs. search needs) (λ c κs. search needs) (λ c κs. search needs) (λ c κs. search needs) (λ c κs. search needs) (λ c κs. search needs) (λ c κs. search needs) (λ c κs. search needs) (λ c κs. search needs) returns)
+    (tie.spec (λ c κs. search needs) (λ c κs. search needs) (λ c κs. search needs) (λ c κs. search needs) (λ c κs. search needs) (λ c κs. search needs)
+    (λ c κs. search needs) (λ c κs. search needs) (λ c κs. search needs) (λ c κs. search needs) (λ c κs. search needs) returns)

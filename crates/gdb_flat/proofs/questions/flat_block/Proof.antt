@@ -8,7 +8,9 @@ use Rattle.gdb_flat.proofs.questions.flat_block.Tie as tie
 
 returns : tie.Need-returns
 unfolding flatBlock
-returns c = c .shown-block .ensures ∙ ap (λ x. flatBlock (blockMeaning x)) (sym (c .before .before .answer .given .1))
+returns c =
+    let m : tie.After-answer = search in
+    c .shown-block .ensures ∙ ap (λ x. flatBlock (blockMeaning x)) (sym (m .answer .given .1))
 
 returns-2 : tie.Need-returns-2
 unfolding flatBlock

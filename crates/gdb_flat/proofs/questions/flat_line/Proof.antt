@@ -8,7 +8,9 @@ use Rattle.gdb_flat.proofs.questions.flat_line.Tie as tie
 
 returns : tie.Need-returns
 unfolding flatLine
-returns c = rw (c .before .before .answer .given .1, c .kind-number .ensures)
+returns c =
+    let m : tie.After-answer = search in
+    rw (m .answer .given .1, c .kind-number .ensures)
 
 returns-2 : tie.Need-returns-2
 unfolding flatLine
