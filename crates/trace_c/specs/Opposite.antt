@@ -6,8 +6,8 @@ use lib.Dec.{eqb}
 use Rattle.gdb_cut.specs.Selection.{opposite, meaning, against}
 use Rattle.gdb_cut.specs.CutLaws.{against-means}
 use Rattle.gdb_cut.specs.declared.Selection as edit
-use Rattle.trace_flat.specs.Flat.{selectionIn, flatSelection}
-use Rattle.trace_flat.specs.declared.edits.Selection.{Selection}
+use Rattle.gdb_flat.specs.Flat.{selectionIn, flatSelection}
+use Rattle.gdb_flat.specs.declared.edits.Selection.{Selection}
 
 sense : (k : Bool) → not (eqb (cond k 1 0) 0) ≡ k
 sense true = refl

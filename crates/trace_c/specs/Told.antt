@@ -1,4 +1,4 @@
--- `refusal` tells a refusal from an answer: where it is 0, there is an answer (and where there is one it is 0, by Flat.antt and FlatDat.antt).
+-- `refusal` tells a refusal from an answer: where it is 0, there is an answer (and where there is one it is 0, by Flat.antt of gdb_flat and dat_flat).
 -- Assumes nothing.
 use mathlib.Core.Path.{_≡_, refl, sym, _∙_, subst}
 use Prim.Native.Nat.{ℕ}
@@ -29,8 +29,8 @@ use Rattle.gdb_pair.specs.Numbers.{pairNumbers, pair-place-numbers, pair-variab
 use Rattle.dat_format.specs.Numbers.{datNumbers}
 use Rattle.tracedat.specs.Questions.{summed, cpuRange}
 use Rattle.tracedat.specs.Numbers.{rangeNumbers, summary-numbers, cpu-range-numbers}
-use Rattle.trace_flat.specs.Flat.{flatCount, flatPlace, flatLine, flatBlock, flatValue, flatLength, flatPair}
-use Rattle.trace_flat.specs.FlatDat.{flatSummary, flatRange}
+use Rattle.gdb_flat.specs.Flat.{flatCount, flatPlace, flatLine, flatBlock, flatValue, flatLength, flatPair}
+use Rattle.dat_flat.specs.Flat.{flatSummary, flatRange}
 
 -- a call with the answer x, which `flat` makes a struct
 abbrev pub Told : {A B : Type 0} → (Answer A → B) → (B → ℕ) → Answer A → Type 0

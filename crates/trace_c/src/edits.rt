@@ -4,14 +4,14 @@ ghost use Rattle.gdb_cut.specs.Cut.{cutOf};
 ghost use Rattle.gdb_join.specs.Join.{joinOf};
 ghost use Rattle.gdb_cut.specs.Selection.{against};
 ghost use Rattle.gdb_pair.specs.Pair.{pairPlace, pairVariable};
-ghost use Rattle.trace_flat.specs.Flat.{flatValue, flatLength, flatPair, selectionIn, flatSelection, FlatLent};
+ghost use Rattle.gdb_flat.specs.Flat.{flatValue, flatLength, flatPair, selectionIn, flatSelection, FlatLent};
+use gdb_flat::edits;
+use gdb_flat::edits::Length;
+use gdb_flat::edits::PairPart;
+use gdb_flat::edits::Selection;
+use gdb_flat::questions;
+use gdb_flat::questions::Value;
 use gdb_format::Settings;
-use trace_flat::edits;
-use trace_flat::edits::Length;
-use trace_flat::edits::PairPart;
-use trace_flat::edits::Selection;
-use trace_flat::questions;
-use trace_flat::questions::Value;
 
 #[no_mangle]
 pub extern "C" fn tfk_opposite(selection: Selection) -> Selection

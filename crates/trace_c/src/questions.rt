@@ -3,15 +3,15 @@ ghost use mathlib.Core.Path.{_≡_};
 ghost use Rattle.gdb_frames.specs.Questions.{asked, frameCount, frameData, lineAt};
 ghost use Rattle.gdb_blocks.specs.Search.{blockAt, registersAt, memoryAt, variableAt};
 ghost use Rattle.gdb_table.specs.Records.{frameTable};
-ghost use Rattle.trace_flat.specs.Flat.{flatCount, flatPlace, flatLine, flatBlock, flatValue, FlatLent};
+ghost use Rattle.gdb_flat.specs.Flat.{flatCount, flatPlace, flatLine, flatBlock, flatValue, FlatLent};
+use gdb_flat::questions;
+use gdb_flat::questions::Block;
+use gdb_flat::questions::Count;
+use gdb_flat::questions::Line;
+use gdb_flat::questions::Place;
+use gdb_flat::questions::Value;
 use gdb_format::Settings;
 use gdb_table::FrameRecord;
-use trace_flat::questions;
-use trace_flat::questions::Block;
-use trace_flat::questions::Count;
-use trace_flat::questions::Line;
-use trace_flat::questions::Place;
-use trace_flat::questions::Value;
 
 #[no_mangle]
 pub extern "C" fn tfk_frame_count(settings: Settings, file: &[u8]) -> Count

@@ -1,7 +1,7 @@
 -- `trace_c::dat::tfk_dat_cpu_range` meets its contract: the answer of `tracedat::cpu_range`. Assumes nothing.
 use mathlib.Core.Path.{ap, _∙_}
 use borrow.Author.Needs.{needs}
-use Rattle.trace_flat.specs.FlatDat.{flatRange}
+use Rattle.dat_flat.specs.Flat.{flatRange}
 use Rattle.trace_c.proofs.dat.tfk_dat_cpu_range.Statement.{statement}
 use Rattle.trace_c.proofs.dat.tfk_dat_cpu_range.Tie as tie
 

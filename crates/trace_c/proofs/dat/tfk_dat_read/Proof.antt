@@ -1,7 +1,7 @@
 -- `trace_c::dat::tfk_dat_read` meets its contract: the answer of `tracedat::summary`. Assumes nothing.
 use mathlib.Core.Path.{ap, _∙_}
 use borrow.Author.Needs.{needs}
-use Rattle.trace_flat.specs.FlatDat.{flatSummary}
+use Rattle.dat_flat.specs.Flat.{flatSummary}
 use Rattle.trace_c.proofs.dat.tfk_dat_read.Statement.{statement}
 use Rattle.trace_c.proofs.dat.tfk_dat_read.Tie as tie
 

@@ -2,12 +2,14 @@
 use mathlib.Core.Path.{ap, _∙_}
 use borrow.Author.Needs.{needs}
 use Rattle.gdb_cut.specs.Selection.{against}
-use Rattle.trace_flat.specs.Flat.{flatSelection}
+use Rattle.gdb_flat.specs.Flat.{flatSelection}
 use Rattle.trace_c.proofs.edits.tfk_opposite.Statement.{statement}
 use Rattle.trace_c.proofs.edits.tfk_opposite.Tie as tie
 
 returns : tie.Need-returns
-returns c = c .flat-selection .ensures ∙ ap flatSelection (c .before .opposite .ensures ∙ ap against (c .before .before .selection-in .ensures))
+returns c =
+    let o = c .before in
+    c .flat-selection .ensures ∙ ap flatSelection (o .opposite .ensures ∙ ap against (o .before .selection-in .ensures))
 
 pub tfk-opposite-spec : {M : Type 1} → statement M
 tfk-opposite-spec = tie.close (tie.spec (λ c κs. search needs) (λ c κs. search needs) (λ c κs. search needs) returns)

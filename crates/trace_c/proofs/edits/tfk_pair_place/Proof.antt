@@ -1,7 +1,7 @@
 -- `trace_c::edits::tfk_pair_place` meets its contract: the answer of `gdb_pair::pair_place`. Assumes nothing.
 use mathlib.Core.Path.{ap, _∙_}
 use borrow.Author.Needs.{needs}
-use Rattle.trace_flat.specs.Flat.{flatPair}
+use Rattle.gdb_flat.specs.Flat.{flatPair}
 use Rattle.trace_c.proofs.edits.tfk_pair_place.Statement.{statement}
 use Rattle.trace_c.proofs.edits.tfk_pair_place.Tie as tie
 

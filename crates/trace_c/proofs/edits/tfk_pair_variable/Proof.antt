@@ -1,7 +1,7 @@
 -- `trace_c::edits::tfk_pair_variable` meets its contract: the answer of `gdb_pair::pair_variable`. Assumes nothing.
 use mathlib.Core.Path.{ap, _∙_}
 use borrow.Author.Needs.{needs}
-use Rattle.trace_flat.specs.Flat.{flatValue}
+use Rattle.gdb_flat.specs.Flat.{flatValue}
 use Rattle.trace_c.proofs.edits.tfk_pair_variable.Statement.{statement}
 use Rattle.trace_c.proofs.edits.tfk_pair_variable.Tie as tie
 

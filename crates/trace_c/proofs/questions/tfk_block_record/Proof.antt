@@ -1,7 +1,7 @@
 -- `trace_c::questions::tfk_block_record` meets its contract: the answer of `gdb_blocks::block_record`. Assumes nothing.
 use mathlib.Core.Path.{ap, _∙_}
 use borrow.Author.Needs.{needs}
-use Rattle.trace_flat.specs.Flat.{flatBlock}
+use Rattle.gdb_flat.specs.Flat.{flatBlock}
 use Rattle.trace_c.proofs.questions.tfk_block_record.Statement.{statement}
 use Rattle.trace_c.proofs.questions.tfk_block_record.Tie as tie
 

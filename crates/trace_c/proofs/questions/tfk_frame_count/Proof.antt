@@ -1,7 +1,7 @@
 -- `trace_c::questions::tfk_frame_count` meets its contract: the answer of `gdb_frames::frame_count`. Assumes nothing.
 use mathlib.Core.Path.{ap, _∙_}
 use borrow.Author.Needs.{needs}
-use Rattle.trace_flat.specs.Flat.{flatCount}
+use Rattle.gdb_flat.specs.Flat.{flatCount}
 use Rattle.trace_c.proofs.questions.tfk_frame_count.Statement.{statement}
 use Rattle.trace_c.proofs.questions.tfk_frame_count.Tie as tie
 

@@ -1,7 +1,7 @@
 -- `trace_c::questions::tfk_registers_place` meets its contract: the answer of `gdb_blocks::registers_place`. Assumes nothing.
 use mathlib.Core.Path.{ap, _∙_}
 use borrow.Author.Needs.{needs}
-use Rattle.trace_flat.specs.Flat.{flatPlace}
+use Rattle.gdb_flat.specs.Flat.{flatPlace}
 use Rattle.trace_c.proofs.questions.tfk_registers_place.Statement.{statement}
 use Rattle.trace_c.proofs.questions.tfk_registers_place.Tie as tie
 

@@ -1,7 +1,7 @@
 -- `trace_c::questions::tfk_variable` meets its contract: the answer of `gdb_blocks::variable`. Assumes nothing.
 use mathlib.Core.Path.{ap, _∙_}
 use borrow.Author.Needs.{needs}
-use Rattle.trace_flat.specs.Flat.{flatValue}
+use Rattle.gdb_flat.specs.Flat.{flatValue}
 use Rattle.trace_c.proofs.questions.tfk_variable.Statement.{statement}
 use Rattle.trace_c.proofs.questions.tfk_variable.Tie as tie
 
