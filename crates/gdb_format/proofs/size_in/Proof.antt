@@ -26,7 +26,7 @@ returns : tie.Need-returns Inv-loop μ-loop
 returns c = let a = c .before .args in size-short (a .format) (a .l .now) (omega arith)
 
 returns-2 : tie.Need-returns-2 Inv-loop μ-loop
-returns-2 c = let a = c .before .before .args in size-long (a .format) (a .l .now) (omega arith)
+returns-2 c = let q : tie.Start Inv-loop μ-loop = search in size-long (q .args .format) (q .args .l .now) (omega arith)
 
 loop-holds : tie.Need-loop-holds Inv-loop μ-loop
 loop-holds c =
