@@ -14,6 +14,7 @@ use Rattle.fields.specs.Lists.{clash, drop-one}
 use Rattle.gdb_format.specs.Lines.{numeral, limited, sizeOf}
 use Rattle.gdb_format.specs.Opening.{digitsOf}
 use Rattle.gdb_format.specs.declared.Format.{Format}
+use Rattle.gdb_format.specs.declared.Digits.{Digits}
 use Rattle.gdb_format.specs.declared.Digits.the-variants.{Value, Bad}
 
 -- the digits before k gave v, and with those from k on they give what all give
@@ -81,10 +82,10 @@ module _ (f : Format) (l : List ℕ) where
   size-long h = rw (lt-leb (length (drop 2 l)) 5 (omega (arith, length-drop 2 l)), and-false (leb 1 (length (drop 2 l))))
 
 -- what the digit reader's answer tells of the size
-pub value-of : (n : ℕ) (x : Option ℕ) → Value n ≡ digitsOf x → x ≡ some n
-value-of n none e = clash (cc)
-value-of n (some m) e = cc
+pub value-of : {r : Digits} {n : ℕ} (x : Option ℕ) → r ≡ Value n → r ≡ digitsOf x → x ≡ some n
+value-of none e h = clash (cc)
+value-of (some m) e h = cc
 
-pub bad-of : (x : Option ℕ) → Bad ≡ digitsOf x → x ≡ none
-bad-of none e = refl
-bad-of (some m) e = clash (cc)
+pub bad-of : {r : Digits} (x : Option ℕ) → r ≡ Bad → r ≡ digitsOf x → x ≡ none
+bad-of none e h = refl
+bad-of (some m) e h = clash (cc)
