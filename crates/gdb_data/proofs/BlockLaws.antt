@@ -182,7 +182,8 @@ module _ {f : Format} {size : Option ℕ} {d : List ℕ} {at : ℕ} (h : Letter 
       k : at + 1 ≤ length d
       k = omega (arith, h .inside)
 
-      by : (p q r : Bool) → cond p (registerBlock size) (cond q (memoryBlock f) (cond r (variableBlock f) (refuse badLetter))) (drop (at + 1) d) ≡ accepted (b, rest)
+      by : (p q r : Bool)
+          → cond p (registerBlock size) (cond q (memoryBlock f) (cond r (variableBlock f) (refuse badLetter))) (drop (at + 1) d) ≡ accepted (b, rest)
           → carriedBy b ≡ cond p registers
           (cond q (memory (wordAt (f .order) 8 d (at + 1)) (wordAt (f .order) 2 d (at + 9)))
           (variable (wordAt (f .order) 4 d (at + 1)) (signed64 (wordAt (f .order) 8 d (at + 5)))))
