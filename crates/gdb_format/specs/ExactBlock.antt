@@ -1,7 +1,7 @@
 -- A block is read exactly when it is laid out so, kind by kind.
 -- Assumes nothing.
 use mathlib.Core.Path.{_≡_, refl, sym, ap, subst}
-use mathlib.Core.Bool.{false}
+use mathlib.Core.Bool.{true, false}
 use mathlib.Core.Option.{Option, none, some, Option·some-injective}
 use Prim.Native.Nat.{ℕ}
 use native.Mathlib.Omega.{arith}
@@ -14,8 +14,9 @@ use Rattle.refusals.specs.Refusal.{badLetter, blockPastData, noRegisterSize}
 use Rattle.fields.specs.Lists.{clash}
 use Rattle.fields.specs.Number.{field}
 use Rattle.fields.specs.Signed.{signed64, unsigned64, signed-unsigned, unsigned-signed, unsigned-lt, signed-fits}
+use Rattle.fields.specs.Reader.{Reader}
 use Rattle.fields.specs.Exact.{Exact, exact-give, exact-bytes, exact-then, exact-as, exact-num, exact-refuse, exact-cond}
-use Rattle.fields.specs.Takes.{Shorter, Takes, shorter, takes-give, takes-refuse, takes-bytes, takes-then, takes-num, takes-cond, takes-less}
+use Rattle.fields.specs.Takes.{Shorter, Takes, shorter, takes-give, takes-refuse, takes-bytes, takes-then, takes-num, takes-cond, takes-after}
 use Rattle.fields.specs.declared.Order.the-variants.{Little}
 use Rattle.gdb_format.specs.Trace.{Block, registers, memory, variable, putBlock}
 use Rattle.gdb_format.specs.Layout.{BlockFits}
@@ -63,18 +64,28 @@ exact-registers f none =
     (elim [ registers b ↦ λ h. clash (cc) | memory a b ↦ λ h. omega arith | variable n v ↦ λ h. omega arith ])
 exact-registers f (some n) =
     exact-as (exact-then (exact-bytes n blockPastData) (λ b. exact-give (registers b)) bytesIn (λ b c h e. rw e))
-    (elim [ registers b ↦ λ h. ((Option·some-injective _ _ (sym (h .1)), refl), append-nil b) | memory a b ↦ λ h. absurd (omega arith) | variable n v ↦ λ h. absurd (omega arith) ])
+    (elim [
+      | registers b ↦ λ h. ((Option·some-injective _ _ (sym (h .1)), refl), append-nil b)
+      | memory a b ↦ λ h. absurd (omega arith)
+      | variable n v ↦ λ h. absurd (omega arith)
+    ])
     (elim [ registers b ↦ λ h. ((refl, ap some (sym (h .0))), append-nil b) | memory a b ↦ λ h. clash (cc) | variable n v ↦ λ h. clash (cc) ])
 
 exact-memory : (f : Format) (size : Option ℕ) → Exact (memoryBlock f) (IsBlock 0x4D size) (content f)
 unfolding letterOf content bytesIn numberIn memoryBlock
 exact-memory f size =
     exact-as
-    (exact-then (exact-num (f .order) 8 blockPastData) (λ a. exact-then (exact-num (f .order) 2 blockPastData) (λ n. exact-then (exact-bytes n blockPastData) (λ b. exact-give (memory a b))
+    (exact-then (exact-num (f .order) 8 blockPastData) (λ a.
+    exact-then (exact-num (f .order) 2 blockPastData) (λ n.
+    exact-then (exact-bytes n blockPastData) (λ b. exact-give (memory a b))
     bytesIn (λ b c h e. rw e))
     (λ c. length (bytesIn c)) (λ n c h e. e .0))
     numberIn (λ a c h e. rw (e .1 .1)))
-    (elim [ registers b ↦ λ h. absurd (omega arith) | memory a b ↦ λ h. ((h .1 .0, (h .1 .1, (refl, refl))), simp append-nil) | variable n v ↦ λ h. absurd (omega arith) ])
+    (elim [
+      | registers b ↦ λ h. absurd (omega arith)
+      | memory a b ↦ λ h. ((h .1 .0, (h .1 .1, (refl, refl))), simp append-nil)
+      | variable n v ↦ λ h. absurd (omega arith)
+    ])
     (elim [ registers b ↦ λ h. clash (cc) | memory a b ↦ λ h. ((refl, (h .0, h .1 .0)), simp append-nil) | variable n v ↦ λ h. clash (cc) ])
 
 exact-variable : (f : Format) (size : Option ℕ) → Exact (variableBlock f) (IsBlock 0x56 size) (content f)
@@ -105,16 +116,23 @@ no-letter letter size r m v (variable n x) h = eqb-false letter 0x56 v (sym (h .
 exact-blockOf : (f : Format) (size : Option ℕ) (letter : ℕ) → Exact (blockOf f size letter) (IsBlock letter size) (content f)
 unfolding blockOf
 exact-blockOf f size letter =
-    exact-cond (eqb letter 0x52) (λ e. subst (λ l. Exact (registerBlock size) (IsBlock l size) (content f)) (sym (eqb-true letter 0x52 e)) (exact-registers f size))
-    (λ r. exact-cond (eqb letter 0x4D) (λ e. subst (λ l. Exact (memoryBlock f) (IsBlock l size) (content f)) (sym (eqb-true letter 0x4D e)) (exact-memory f size))
-    (λ m. exact-cond (eqb letter 0x56) (λ e. subst (λ l. Exact (variableBlock f) (IsBlock l size) (content f)) (sym (eqb-true letter 0x56 e)) (exact-variable f size))
+    exact-cond (eqb letter 0x52) (λ e. of-letter 0x52 e (exact-registers f size))
+    (λ r. exact-cond (eqb letter 0x4D) (λ e. of-letter 0x4D e (exact-memory f size))
+    (λ m. exact-cond (eqb letter 0x56) (λ e. of-letter 0x56 e (exact-variable f size))
     (λ v. exact-refuse badLetter (IsBlock letter size) (content f) (no-letter letter size r m v))))
+  where
+    of-letter : (l : ℕ) {p : Reader Block} → eqb letter l ≡ true → Exact p (IsBlock l size) (content f) → Exact p (IsBlock letter size) (content f)
+    of-letter l {p} e h = subst (λ l. Exact p (IsBlock l size) (content f)) (sym (eqb-true letter l e)) h
 
 pub exact-block : (f : Format) (size : Option ℕ) → Exact (block f size) (BlockFits size) (putBlock f)
 unfolding letterOf content block
 exact-block f size =
     exact-as (exact-then (exact-num Little 1 blockPastData) (exact-blockOf f size) letterOf (λ a c h e. e .0))
-    (elim [ registers b ↦ λ h. ((omega arith, (refl, h)), refl) | memory a b ↦ λ h. ((omega arith, (refl, h)), refl) | variable n v ↦ λ h. ((omega arith, (refl, h)), refl) ])
+    (elim [
+      | registers b ↦ λ h. ((omega arith, (refl, h)), refl)
+      | memory a b ↦ λ h. ((omega arith, (refl, h)), refl)
+      | variable n v ↦ λ h. ((omega arith, (refl, h)), refl)
+    ])
     (elim [ registers b ↦ λ h. (h .1 .1, refl) | memory a b ↦ λ h. (h .1 .1, refl) | variable n v ↦ λ h. (h .1 .1, refl) ])
 
 -- ---- a block takes at least its letter
@@ -122,19 +140,20 @@ exact-block f size =
 takes-registers : (size : Option ℕ) → Takes 0 (registerBlock size)
 unfolding registerBlock
 takes-registers none = takes-refuse noRegisterSize 0
-takes-registers (some n) = takes-less n 0 (omega arith) (takes-then n (takes-bytes n blockPastData) (λ b. takes-give (registers b)))
+takes-registers (some n) = takes-after n (takes-bytes n blockPastData) (λ b. takes-give (registers b))
 
 takes-memory : (f : Format) → Takes 0 (memoryBlock f)
 unfolding memoryBlock
 takes-memory f =
-    takes-less 8 0 (omega arith) (takes-then 8 (takes-num (f .order) 8 blockPastData) (λ a. takes-less 2 0 (omega arith) (takes-then 2 (takes-num (f .order) 2 blockPastData)
-    (λ n. takes-less n 0 (omega arith) (takes-then n (takes-bytes n blockPastData) (λ b. takes-give (memory a b)))))))
+    takes-after 8 (takes-num (f .order) 8 blockPastData) (λ a.
+    takes-after 2 (takes-num (f .order) 2 blockPastData) (λ n.
+    takes-after n (takes-bytes n blockPastData) (λ b. takes-give (memory a b))))
 
 takes-variable : (f : Format) → Takes 0 (variableBlock f)
 unfolding variableBlock
 takes-variable f =
-    takes-less 4 0 (omega arith) (takes-then 4 (takes-num (f .order) 4 blockPastData)
-    (λ n. takes-less 8 0 (omega arith) (takes-then 8 (takes-num (f .order) 8 blockPastData) (λ v. takes-give (variable n (signed64 v))))))
+    takes-after 4 (takes-num (f .order) 4 blockPastData) (λ n.
+    takes-after 8 (takes-num (f .order) 8 blockPastData) (λ v. takes-give (variable n (signed64 v))))
 
 takes-blockOf : (f : Format) (size : Option ℕ) (letter : ℕ) → Takes 0 (blockOf f size letter)
 unfolding blockOf

@@ -11,8 +11,9 @@ use Rattle.fields.specs.Lists.{concatMap, Each}
 use Rattle.fields.specs.Number.{Bytes, field, bytes-back}
 use Rattle.fields.specs.Answer.{accepted, next-inv, accepted-inj}
 use Rattle.fields.specs.Reader.{Reader, _>>=_, give}
-use Rattle.fields.specs.Exact.{Back, Forth, Exact, exact-give, exact-bytes, exact-given, exact-then, exact-as, exact-num, back-toEnd, forth-toEnd, back-filling, forth-filling}
-use Rattle.fields.specs.Takes.{Shorter, Takes, shorter, takes-give, takes-bytes, takes-then, takes-num, takes-less, takes-filling}
+use Rattle.fields.specs.Exact.{Back, Forth, Exact, exact-give, exact-bytes, exact-given, exact-then, exact-as, exact-num}
+use Rattle.fields.specs.Exact.{back-toEnd, forth-toEnd, back-filling, forth-filling}
+use Rattle.fields.specs.Takes.{Shorter, Takes, shorter, takes-give, takes-bytes, takes-then, takes-num, takes-less, takes-after, takes-filling}
 use Rattle.gdb_format.specs.Trace.{Block, Frame, dataOf, putBlock, putData, putFrame}
 use Rattle.gdb_format.specs.Layout.{BlockFits, FrameFits}
 use Rattle.gdb_format.specs.Decode.{block, frameHead, blocks, frame, frames}
@@ -28,7 +29,9 @@ pub exact-head : (f : Format) → Exact (frameHead f) HeadFits (putData f)
 unfolding frameHead
 exact-head f =
     exact-as
-    (exact-then (exact-num (f .order) 2 shortHead) (λ n. exact-then (exact-num (f .order) 4 shortHead) (λ k. exact-then (exact-bytes k dataPastFile) (λ d. exact-give (n, d))
+    (exact-then (exact-num (f .order) 2 shortHead) (λ n.
+    exact-then (exact-num (f .order) 4 shortHead) (λ k.
+    exact-then (exact-bytes k dataPastFile) (λ d. exact-give (n, d))
     (λ h. h .1) (λ d h g e. ap (λ h. h .1) e))
     (λ h. length (h .1)) (λ k h g e. e .0))
     (λ h. h .0) (λ n h g e. ap (λ h. h .0) (e .1 .1)))
@@ -38,8 +41,9 @@ exact-head f =
 pub takes-head : (f : Format) → Takes 1 (frameHead f)
 unfolding frameHead
 takes-head f =
-    takes-less 2 1 (omega arith) (takes-then 2 (takes-num (f .order) 2 shortHead) (λ n. takes-less 4 0 (omega arith) (takes-then 4 (takes-num (f .order) 4 shortHead)
-    (λ k. takes-less k 0 (omega arith) (takes-then k (takes-bytes k dataPastFile) (λ d. takes-give (n, d)))))))
+    takes-less 2 1 (omega arith) (takes-then 2 (takes-num (f .order) 2 shortHead) (λ n.
+    takes-after 4 (takes-num (f .order) 4 shortHead) (λ k.
+    takes-after k (takes-bytes k dataPastFile) (λ d. takes-give (n, d)))))
 
 -- ---- the blocks that fill the data
 
@@ -76,7 +80,8 @@ pub exact-frame : (f : Format) (size : Option ℕ) → Exact (frame f size) (Fra
 unfolding frame
 exact-frame f size =
     exact-as
-    (exact-given (exact-head f) (body f size) (IsFrame f size) (λ h r. []) (body-back f size) (body-forth f size) (λ r. (r .tracepoint, dataOf f r)) (λ h r g e. same h r (e .0) (e .2)))
+    (exact-given (exact-head f) (body f size) (IsFrame f size) (λ h r. []) (body-back f size) (body-forth f size)
+    (λ r. (r .tracepoint, dataOf f r)) (λ h r g e. same h r (e .0) (e .2)))
     (λ r g. (((g .0, g .1), (refl, g .2, refl)), append-nil (putFrame f r)))
     (λ r g. ((g .0 .0, g .0 .1, g .1 .1), append-nil (putFrame f r)))
   where

@@ -3,7 +3,7 @@
 use mathlib.Core.Path.{_≡_, ap, _∙_, subst}
 use mathlib.Core.Logic.{_↔_}
 use Prim.Native.Nat.{ℕ, _≤_}
-use mathlib.Core.List.{List, [], _++_}
+use mathlib.Core.List.{List, _++_}
 use lib.ListN.{length}
 use lib.Dec.{leb}
 use borrow.Author.Tests.{leb-true, le-leb}
@@ -73,7 +73,8 @@ read-exactness s b f t h = (
   (λ l. rw (l .0, (exactness f b t h) .1 (l .1, l .2))),
 )
   where
-    forth : (g : Format) (u : Trace) → settingsOf s ≡ accepted g → decode g b ≡ accepted u → (g ≡ f) × (u ≡ t) → (settingsOf s ≡ accepted f) × Layout f t × (encode f t ≡ b)
+    forth : (g : Format) (u : Trace) → settingsOf s ≡ accepted g → decode g b ≡ accepted u → (g ≡ f) × (u ≡ t)
+        → (settingsOf s ≡ accepted f) × Layout f t × (encode f t ≡ b)
     forth g u e d i =
         let d' : decode f b ≡ accepted t = rw (i .0, i .1) at d in
         let l = (exactness f b t h) .0 d' in

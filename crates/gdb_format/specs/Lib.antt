@@ -1,5 +1,6 @@
 pub mod Settings
 pub mod Trace
+pub mod FrameBytes
 pub mod Lines
 pub mod Layout
 pub mod LineLaws

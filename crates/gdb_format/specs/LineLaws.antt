@@ -1,9 +1,9 @@
 -- The reader's tests of the description's lines, against the rules: what an R line says, and that the tests line by line let through just the lines that fit.
 -- Assumes nothing.
-use mathlib.Core.Path.{_≡_, refl, sym, ap, _∙_}
-use mathlib.Core.Bool.{Bool, true, false, cond, not, _&&_, _||_}
+use mathlib.Core.Path.{_≡_, refl, sym, _∙_}
+use mathlib.Core.Bool.{Bool, true, false, cond, not, _&&_, _||_, or-false}
 use mathlib.Core.Option.{Option, none, some, Option·some-injective}
-use mathlib.Core.Logic.{_↔_, _⊎_, inl, inr}
+use mathlib.Core.Logic.{_↔_, inl, inr}
 use Prim.Native.Nat.{ℕ, _+_, _-_, _*_, _<_, _≤_}
 use native.Mathlib.Omega.{arith}
 use mathlib.Core.List.{List, [], _∷_, _++_}
@@ -63,24 +63,22 @@ size-says f l n = (forth, back)
   where
     forth : sizeOf f l ≡ some n → Says f l n
     forth e =
-        let q = cond-some (leb 1 (length (drop 2 l)) && leb (length (drop 2 l)) 5) (limited (numeral 0 (drop 2 l))) n e in
-        let r = and-inv (leb 1 (length (drop 2 l))) (leb (length (drop 2 l)) 5) (q .0) in
-        let s = limited-some (numeral 0 (drop 2 l)) n (q .1) in
-        (leb-true 1 (length (drop 2 l)) (r .0), leb-true (length (drop 2 l)) 5 (r .1), spelled-of 0 n (drop 2 l) (s .0), s .1)
+        let d = drop 2 l in
+        let q = cond-some (leb 1 (length d) && leb (length d) 5) (limited (numeral 0 d)) n e in
+        let r = and-inv (leb 1 (length d)) (leb (length d) 5) (q .0) in
+        let s = limited-some (numeral 0 d) n (q .1) in
+        (leb-true 1 (length d) (r .0), leb-true (length d) 5 (r .1), spelled-of 0 n d (s .0), s .1)
 
     back : Says f l n → sizeOf f l ≡ some n
     back h =
-        rw (le-leb 1 (length (drop 2 l)) (h .0), le-leb (length (drop 2 l)) 5 (h .1), of-spelled 0 (drop 2 l) (h .2 .0) (h .2 .1), h .2 .2, le-leb n 65535 (h .3))
+        let d = drop 2 l in
+        rw (le-leb 1 (length d) (h .0), le-leb (length d) 5 (h .1), of-spelled 0 d (h .2 .0) (h .2 .1), h .2 .2, le-leb n 65535 (h .3))
 
 -- ---- which line may follow which
 
 -- a line as it is read, after `before`
 abbrev pub Follows : Format → List (List ℕ) → List ℕ → Type 0
 Follows f before l = (0 < length l) × NoEnd l × (mayFollow f before l ≡ true)
-
-pub or-false : (b : Bool) → b || false ≡ b
-or-false true = refl
-or-false false = refl
 
 pub any-last : (p : List ℕ → Bool) (before : List (List ℕ)) (l : List ℕ) → anyLine p (before ++ l ∷ []) ≡ anyLine p before || p l
 any-last p [] l = or-false (p l)
@@ -99,7 +97,11 @@ one-kind (x ∷ l) e = let q = and-inv (eqb 0x52 x) (starts (0x20 ∷ []) l) e i
 abbrev May : Bool → Option ℕ → Bool → Bool → Bool → Type 0
 May t z a u b = cond t (isSome z && not a) (cond u (not b) true) ≡ true
 
-may-then : (t : Bool) (z : Option ℕ) (a u b : Bool) → (t ≡ true → u ≡ false) → May t z a u b → (t ≡ true → (n : ℕ) × (z ≡ some n)) × (t ≡ true → a ≡ false) × (u ≡ true → b ≡ false)
+-- and what it lets through: an R line says a size and is the first, and so is a status line
+abbrev Allowed : Bool → Option ℕ → Bool → Bool → Bool → Type 0
+Allowed t z a u b = (t ≡ true → (n : ℕ) × (z ≡ some n)) × (t ≡ true → a ≡ false) × (u ≡ true → b ≡ false)
+
+may-then : (t : Bool) (z : Option ℕ) (a u b : Bool) → (t ≡ true → u ≡ false) → May t z a u b → Allowed t z a u b
 may-then true none a u b k e = clash (cc)
 may-then true (some n) true u b k e = clash (cc)
 may-then true (some n) false u b k e = ((λ i. (n, refl)), (λ i. refl), (λ i. let w : u ≡ false = k refl in clash (cc)))
@@ -107,15 +109,17 @@ may-then false z a true true k e = clash (cc)
 may-then false z a true false k e = ((λ i. clash (cc)), (λ i. clash (cc)), (λ i. refl))
 may-then false z a false b k e = ((λ i. clash (cc)), (λ i. clash (cc)), (λ i. clash (cc)))
 
-may-of : (t : Bool) (z : Option ℕ) (a u b : Bool) → (t ≡ true → (n : ℕ) × (z ≡ some n)) → (t ≡ true → a ≡ false) → (u ≡ true → b ≡ false) → May t z a u b
-may-of true z a u b h i j = rw ((h refl) .1, i refl)
-may-of false z a true b h i j = rw (j refl)
-may-of false z a false b h i j = refl
+may-of : (t : Bool) (z : Option ℕ) (a u b : Bool) → Allowed t z a u b → May t z a u b
+may-of true z a u b h = rw ((h .0 refl) .1, h .1 refl)
+may-of false z a true b h = rw (h .2 refl)
+may-of false z a false b h = refl
 
 module _ (f : Format) where
   -- the rules for lines that stand after `before`
   abbrev FitAfter : List (List ℕ) → List (List ℕ) → Type 0
-  FitAfter before ls = Each (LineFits f) ls × (one (anyLine isRegister before) + count isRegister ls ≤ 1) × (one (anyLine isStatus before) + count isStatus ls ≤ 1)
+  FitAfter before ls =
+      Each (LineFits f) ls × (one (anyLine isRegister before) + count isRegister ls ≤ 1)
+      × (one (anyLine isStatus before) + count isStatus ls ≤ 1)
 
   abbrev Follow : List (List ℕ) → List (List ℕ) → Type 0
   Follow before ls = EachAfter (Follows f) (λ before l. before ++ l ∷ []) before ls
@@ -126,11 +130,12 @@ module _ (f : Format) where
       let r = first-then (anyLine isRegister before) (isRegister l) (count isRegister ls) (h .1) in
       let s = first-then (anyLine isStatus before) (isStatus l) (count isStatus ls) (h .2) in
       let z : isRegister l ≡ true → (n : ℕ) × (sizeOf f l ≡ some n) = λ t. let q = h .0 .0 .2 t in (q .0, (size-says f l (q .0)) .1 (q .1)) in (
-        (h .0 .0 .0, h .0 .0 .1, may-of (isRegister l) (sizeOf f l) (anyLine isRegister before) (isStatus l) (anyLine isStatus before) z (r .0) (s .0)),
+        (h .0 .0 .0, h .0 .0 .1, may-of (isRegister l) (sizeOf f l) (anyLine isRegister before) (isStatus l) (anyLine isStatus before) (z, r .0, s .0)),
         follow-after ls (before ++ l ∷ []) (h .0 .1, rw (any-last isRegister before l) (r .1), rw (any-last isStatus before l) (s .1)),
       )
 
-  after-follow : (ls before : List (List ℕ)) → (one (anyLine isRegister before) ≤ 1) → (one (anyLine isStatus before) ≤ 1) → Follow before ls → FitAfter before ls
+  after-follow : (ls before : List (List ℕ)) → (one (anyLine isRegister before) ≤ 1) → (one (anyLine isStatus before) ≤ 1)
+      → Follow before ls → FitAfter before ls
   after-follow [] before u v h = (tt, omega arith, omega arith)
   after-follow (l ∷ ls) before u v h =
       let m = may-then (isRegister l) (sizeOf f l) (anyLine isRegister before) (isStatus l) (anyLine isStatus before) (one-kind l) (h .0 .2) in
@@ -175,7 +180,8 @@ module _ (f : Format) (n : ℕ) where
   of-says [] a h = absurd h
   of-says (l ∷ ls) a h = by (isRegister l) refl a h (of-says ls)
     where
-      by : (t : Bool) → isRegister l ≡ t → one t + count isRegister ls ≤ 1 → SaysIn f (l ∷ ls) n → (AtMostOne isRegister ls → SaysIn f ls n → registerSize f ls ≡ some n)
+      by : (t : Bool) → isRegister l ≡ t → one t + count isRegister ls ≤ 1 → SaysIn f (l ∷ ls) n
+          → (AtMostOne isRegister ls → SaysIn f ls n → registerSize f ls ≡ some n)
           → cond t (sizeOf f l) (registerSize f ls) ≡ some n
       by true i a (inl h) more = (size-says f l n) .1 (h .1)
       by true i a (inr h) more = absurd (omega (arith, one-line ls h))

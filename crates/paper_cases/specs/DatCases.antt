@@ -338,7 +338,8 @@ abbrev table : List (List Case)
 table = papers ∷ strings ∷ laterStrings ∷ numbers ∷ tails ∷ ranges ∷ wholes ∷ []
 
 pub cases-hold : Each (Each Holds) table
-unfolding summed cpuRange summary decode header checked opening flags sizes sections system texts tail tailAfter word options ending range encode putOpening putSections putTexts putTail
+unfolding summed cpuRange summary decode header checked opening flags sizes sections system texts tail tailAfter word options ending range
+    encode putOpening putSections putTexts putTail
 cases-hold =
     let of-papers : Each Holds papers = (refl, (refl, (refl, (refl, tt)))) in
     let of-strings : Each Holds strings = (refl, (refl, (refl, (refl, (refl, (refl, (refl, (refl, (refl, tt))))))))) in

@@ -4,9 +4,9 @@ use mathlib.Core.Path.{_≡_, refl, _∙_}
 use Prim.Native.Nat.{_-_}
 use lib.ListN.{length, drop}
 use Rattle.gdb_format.specs.Opening.{sizeIn}
-use Rattle.gdb_data.specs.Blocks.{endMeaning, blocksFill}
+use Rattle.gdb_data.specs.Blocks.{blocksFill}
+use Rattle.gdb_data.proofs.BlockLaws.{Ended}
 use Rattle.gdb_data.proofs.Fills.{fill-end, fill-refused, fill-turn}
-use Rattle.fields.specs.Given.{at-case}
 use borrow.Author.Needs.{needs}
 use native.Mathlib.Omega.{arith}
 use Rattle.gdb_data.proofs.blocks_from.Statement.{statement}
@@ -18,41 +18,29 @@ Inv-loop format size d from at₀ at = blocksFill format (sizeIn size) (drop at 
 abbrev μ-loop : tie.MeasureT-loop
 μ-loop format size d from at₀ at = length d - at
 
+-- the block where the walk stands
+ended : (c : tie.After-block-end Inv-loop μ-loop)
+    → let l = c .before in let a = l .before .before .args in
+    Ended (a .format) (sizeIn (a .size)) (a .d .now) (l .loop .at) (c .block-end .result)
+ended c = record { answers = c .block-end .ensures }
+
+abbrev Loop : Type 0
+Loop = tie.At-loop Inv-loop μ-loop
+
 loop-holds : tie.Need-loop-holds Inv-loop μ-loop
 loop-holds c = refl
 
 returns : tie.Need-returns Inv-loop μ-loop
-returns c =
-    let at-loop : tie.At-loop Inv-loop μ-loop = search in
-    let start : tie.Start Inv-loop μ-loop = search in
-    let a = start .args in
-    let l = at-loop .loop in
-    fill-end (a .format) (sizeIn (a .size)) (a .d .now) (l .at) (at-case endMeaning (c .enum-told .given .1) (search)) ∙ l .inv
+returns c = let q : Loop = search in fill-end (ended (search)) (c .enum-told .given .1) ∙ q .loop .inv
 
 returns-2 : tie.Need-returns-2 Inv-loop μ-loop
-returns-2 c =
-    let at-loop : tie.At-loop Inv-loop μ-loop = search in
-    let start : tie.Start Inv-loop μ-loop = search in
-    let a = start .args in
-    let l = at-loop .loop in
-    fill-refused (a .format) (sizeIn (a .size)) (a .d .now) (l .at) _ (at-case endMeaning (c .before .n .given .1) (search)) ∙ l .inv
-
-loop-less : tie.Need-loop-less Inv-loop μ-loop
-loop-less c =
-    let at-loop : tie.At-loop Inv-loop μ-loop = search in
-    let start : tie.Start Inv-loop μ-loop = search in
-    let a = start .args in
-    let t = fill-turn (a .format) (sizeIn (a .size)) (a .d .now) (at-loop .loop .at) (c .before .next .given .0 .0) (at-case endMeaning (c .before .next .given .1) (search)) in
-    omega arith
+returns-2 c = let q : Loop = search in fill-refused (ended (search)) (c .before .n .given .1) ∙ q .loop .inv
 
 loop-again : tie.Need-loop-again Inv-loop μ-loop
-loop-again c =
-    let at-loop : tie.At-loop Inv-loop μ-loop = search in
-    let start : tie.Start Inv-loop μ-loop = search in
-    let a = start .args in
-    let l = at-loop .loop in
-    let t = fill-turn (a .format) (sizeIn (a .size)) (a .d .now) (l .at) (c .before .next .given .0 .0) (at-case endMeaning (c .before .next .given .1) (search)) in
-    t .2 ∙ l .inv
+loop-again c = let q : Loop = search in fill-turn (ended (search)) (c .before .next .given .1) .2 ∙ q .loop .inv
+
+loop-less : tie.Need-loop-less Inv-loop μ-loop
+loop-less c = let t = fill-turn (ended (search)) (c .before .next .given .1) in omega arith
 
 pub blocks-from-spec : {M : Type 1} → statement M
 blocks-from-spec =

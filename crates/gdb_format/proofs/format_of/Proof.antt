@@ -10,7 +10,7 @@ returns-2 : tie.Need-returns-2
 returns-2 c = rw (c .if2 .taken)
 
 returns-3 : tie.Need-returns-3
-returns-3 c = neither (c .before .before .args .settings .order) (c .before .if1 .left) (c .if2 .left)
+returns-3 c = let q : tie.Start = search in neither (q .args .settings .order) (search) (c .if2 .left)
 
 pub format-of-spec : {M : Type 1} → statement M
 format-of-spec =
