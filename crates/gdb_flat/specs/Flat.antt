@@ -11,7 +11,7 @@ use Rattle.gdb_format.specs.declared.LineKind.{LineKind}
 use Rattle.gdb_format.specs.declared.LineKind.the-variants as kind
 use Rattle.gdb_data.specs.Blocks.{Carried, registers, memory, variable}
 use Rattle.fields.specs.Output.{answer, exit, Lent}
-use Rattle.gdb_cut.specs.declared.Selection as edit
+use Rattle.gdb_select.specs.declared.Selection as edit
 use Rattle.gdb_pair.specs.Pair.{Side, first, second}
 use Rattle.gdb_flat.specs.declared.questions.Count.{Count}
 use Rattle.gdb_flat.specs.declared.questions.Place.{Place}

@@ -4,7 +4,7 @@ ghost use Rattle.gdb_cut.specs.Cut.{editMeaning};
 ghost use Rattle.gdb_pair.specs.Pair.{pairPlaceMeaning};
 ghost use Rattle.gdb_flat.specs.Flat.{flatLength, flatPair, selectionIn, flatSelection};
 use gdb_cut::EditAnswer;
-use gdb_cut::Range;
+use gdb_select::Range;
 use gdb_pair::PairPlace;
 
 // A selection as C has it: `keep` is 0 for the numbers in none of the ranges, any other value for those in some.
@@ -15,18 +15,18 @@ pub struct Selection {
     pub keep: u8,
 }
 
-pub fn selection_in(selection: Selection) -> gdb_cut::Selection
+pub fn selection_in(selection: Selection) -> gdb_select::Selection
     ensures { λ r. ⌜ r ≡ selectionIn selection ⌝ }
 {
     let ranges = selection.ranges;
-    gdb_cut::Selection {
+    gdb_select::Selection {
         ranges,
         count: selection.count,
         keep: selection.keep != 0,
     }
 }
 
-pub fn flat_selection(selection: gdb_cut::Selection) -> Selection
+pub fn flat_selection(selection: gdb_select::Selection) -> Selection
     ensures { λ r. ⌜ r ≡ flatSelection selection ⌝ }
 {
     let ranges = selection.ranges;

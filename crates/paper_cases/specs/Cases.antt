@@ -16,8 +16,8 @@ use Rattle.gdb_frames.specs.Places.{part}
 use Rattle.gdb_frames.specs.Questions.{asked, table}
 use Rattle.gdb_blocks.specs.Search.{registersAt, memoryAt, variableAt}
 use Rattle.gdb_cut.specs.Cut.{cutOf}
-use Rattle.gdb_cut.specs.declared.Range.{Range}
-use Rattle.gdb_cut.specs.declared.Selection.{Selection}
+use Rattle.gdb_select.specs.declared.Range.{Range}
+use Rattle.gdb_select.specs.declared.Selection.{Selection}
 
 pub data Question : Type 0 where
   frames : Question
@@ -37,8 +37,8 @@ ofPart b a = next a (λ r. accepted (bytes (part b (accepted r))))
 abbrev pub about : Settings → List ℕ → Question → Answer Reply
 about s b frames = asked s b (λ f t. accepted (rows (table f t)))
 about s b (registers n) = ofPart b (asked s b (registersAt n))
-about s b (memory n a) = ofPart b (asked s b (memoryAt a n))
-about s b (variable n v) = next (asked s b (variableAt v n)) (λ z. accepted (value z))
+about s b (memory n a) = ofPart b (asked s b (memoryAt n a))
+about s b (variable n v) = next (asked s b (variableAt n v)) (λ z. accepted (value z))
 about s b (cut sel) = next (cutOf s sel b) (λ c. accepted (bytes c))
 
 pub record Case : Type 0 where

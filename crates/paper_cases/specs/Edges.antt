@@ -12,7 +12,7 @@ use Rattle.fields.specs.Answer.{Answer, accepted, refused}
 use Rattle.gdb_format.specs.Trace.{opening, encode}
 use Rattle.gdb_format.specs.Decode.{read}
 use Rattle.gdb_cut.specs.Cut.{cutOf}
-use Rattle.gdb_cut.specs.declared.Selection.{Selection}
+use Rattle.gdb_select.specs.declared.Selection.{Selection}
 use Rattle.gdb_join.specs.Join.{joinOf}
 use Rattle.paper_cases.specs.Cases.{Question, frames, memory, variable, cut, Reply, rows, bytes, value, Case, Holds, h, bare, empty1, empty2, range}
 

@@ -18,7 +18,8 @@ use Rattle.gdb_format.specs.declared.Settings.{Settings}
 use Rattle.gdb_format.specs.declared.Format.{Format}
 use Rattle.gdb_frames.specs.File.{File}
 use Rattle.gdb_join.specs.Join.{join, joinOf}
-use Rattle.gdb_frames.specs.File.{length-encode, read-file}
+use Rattle.gdb_read.specs.Steps.{length-encode}
+use Rattle.gdb_frames.specs.File.{read-file}
 use Rattle.gdb_join.specs.JoinTraces.{join-call}
 use Rattle.fields.specs.Word.{bytes-same}
 

@@ -3,9 +3,9 @@
 use mathlib.Core.Path.{_≡_, refl, ap, _∙_}
 use mathlib.Core.Bool.{Bool, true, false, cond, not}
 use lib.Dec.{eqb}
-use Rattle.gdb_cut.specs.Selection.{opposite, meaning, against}
-use Rattle.gdb_cut.specs.CutLaws.{against-means}
-use Rattle.gdb_cut.specs.declared.Selection as edit
+use Rattle.gdb_select.specs.Selection.{opposite, meaning, against}
+use Rattle.gdb_select.specs.SelectionLaws.{against-means}
+use Rattle.gdb_select.specs.declared.Selection as edit
 use Rattle.gdb_flat.specs.Flat.{selectionIn, flatSelection}
 use Rattle.gdb_flat.specs.declared.edits.Selection.{Selection}
 

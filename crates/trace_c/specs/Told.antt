@@ -23,7 +23,7 @@ use Rattle.gdb_cut.specs.Cut.{cutOf}
 use Rattle.gdb_join.specs.Join.{joinOf}
 use Rattle.gdb_cut.specs.Numbers.{cutNumbers, cut-numbers}
 use Rattle.gdb_join.specs.Numbers.{joinNumbers, join-numbers}
-use Rattle.gdb_cut.specs.declared.Selection as edit
+use Rattle.gdb_select.specs.declared.Selection as edit
 use Rattle.gdb_pair.specs.Pair.{pairPlace, pairVariable}
 use Rattle.gdb_pair.specs.Numbers.{pairNumbers, pair-place-numbers, pair-variable-numbers}
 use Rattle.dat_format.specs.Numbers.{datNumbers}
@@ -72,11 +72,11 @@ module _ (s : Settings) (b : List ℕ) where
   unfolding flatPlace
   registers-place-told n = told flatPlace (λ r. r .refusal) (λ k. refl) questionNumbers (search lit≤) (registers-place-numbers s b n)
 
-  pub memory-place-told : (n a : ℕ) → Told flatPlace (λ r. r .refusal) (asked s b (memoryAt a n))
+  pub memory-place-told : (n a : ℕ) → Told flatPlace (λ r. r .refusal) (asked s b (memoryAt n a))
   unfolding flatPlace
   memory-place-told n a = told flatPlace (λ r. r .refusal) (λ k. refl) questionNumbers (search lit≤) (memory-place-numbers s b n a)
 
-  pub variable-told : (n v : ℕ) → Told flatValue (λ r. r .refusal) (asked s b (variableAt v n))
+  pub variable-told : (n v : ℕ) → Told flatValue (λ r. r .refusal) (asked s b (variableAt n v))
   unfolding flatValue
   variable-told n v = told flatValue (λ r. r .refusal) (λ k. refl) questionNumbers (search lit≤) (variable-numbers s b n v)
 

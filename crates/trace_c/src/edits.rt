@@ -2,7 +2,7 @@
 ghost use mathlib.Core.Path.{_≡_};
 ghost use Rattle.gdb_cut.specs.Cut.{cutOf};
 ghost use Rattle.gdb_join.specs.Join.{joinOf};
-ghost use Rattle.gdb_cut.specs.Selection.{against};
+ghost use Rattle.gdb_select.specs.Selection.{against};
 ghost use Rattle.gdb_pair.specs.Pair.{pairPlace, pairVariable};
 ghost use Rattle.gdb_flat.specs.Flat.{flatValue, flatLength, flatPair, selectionIn, flatSelection, FlatLent};
 use gdb_flat::edits;
@@ -18,7 +18,7 @@ pub extern "C" fn tfk_opposite(selection: Selection) -> Selection
     ensures { λ r. ⌜ r ≡ flatSelection (against (selectionIn selection)) ⌝ }
 {
     let given = edits::selection_in(selection);
-    let turned = gdb_cut::opposite(given);
+    let turned = gdb_select::opposite(given);
     edits::flat_selection(turned)
 }
 

@@ -58,14 +58,14 @@ pub extern "C" fn tfk_registers_place(settings: Settings, file: &[u8], n: usize)
 
 #[no_mangle]
 pub extern "C" fn tfk_memory_place(settings: Settings, file: &[u8], n: usize, address: u64) -> Place
-    ensures { λ r. ⌜ r ≡ flatPlace (asked settings (now (file .entry)) (memoryAt address n)) ⌝ }
+    ensures { λ r. ⌜ r ≡ flatPlace (asked settings (now (file .entry)) (memoryAt n address)) ⌝ }
 {
     questions::flat_place(gdb_blocks::memory_place(settings, file, n, address))
 }
 
 #[no_mangle]
 pub extern "C" fn tfk_variable(settings: Settings, file: &[u8], n: usize, number: u32) -> Value
-    ensures { λ r. ⌜ r ≡ flatValue (asked settings (now (file .entry)) (variableAt number n)) ⌝ }
+    ensures { λ r. ⌜ r ≡ flatValue (asked settings (now (file .entry)) (variableAt n number)) ⌝ }
 {
     questions::flat_value(gdb_blocks::variable(settings, file, n, number))
 }

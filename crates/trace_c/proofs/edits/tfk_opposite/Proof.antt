@@ -1,7 +1,7 @@
--- `trace_c::edits::tfk_opposite` meets its contract: the selection of `gdb_cut::opposite`. Assumes nothing.
+-- `trace_c::edits::tfk_opposite` meets its contract: the selection of `gdb_select::opposite`. Assumes nothing.
 use mathlib.Core.Path.{ap, _∙_}
 use borrow.Author.Needs.{needs}
-use Rattle.gdb_cut.specs.Selection.{against}
+use Rattle.gdb_select.specs.Selection.{against}
 use Rattle.gdb_flat.specs.Flat.{flatSelection}
 use Rattle.trace_c.proofs.edits.tfk_opposite.Statement.{statement}
 use Rattle.trace_c.proofs.edits.tfk_opposite.Tie as tie
