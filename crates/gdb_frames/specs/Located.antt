@@ -17,6 +17,7 @@ use Rattle.gdb_format.specs.Lines.{registerSize, kindOf}
 use Rattle.gdb_format.specs.Layout.{LineFits, FrameFits}
 use Rattle.gdb_format.specs.Decode.{frameHead, read}
 use Rattle.gdb_format.specs.Opening.{sizeIn}
+use Rattle.gdb_format.specs.FrameBytes.{frame-long}
 use Rattle.gdb_format.specs.ExactFrame.{exact-head}
 use Rattle.gdb_format.specs.declared.Settings.{Settings}
 use Rattle.gdb_format.specs.declared.Format.{Format}
@@ -44,8 +45,7 @@ locatedMeaning (located.Refused n) = refused n
 -- ---- frame n
 
 frame-fill : (f : Format) (r : Frame) → 0 < length (putFrame f r)
-frame-fill f r =
-    omega (arith, length-append (field (f .order) 2 (r .tracepoint)) (field (f .order) 4 (length (dataOf f r)) ++ dataOf f r), length-field (f .order) 2 (r .tracepoint))
+frame-fill f r = omega (arith, frame-long f (headIn f r))
 
 pub head-nth : (f : Format) (b : List ℕ) (t : Trace) (n : ℕ) → File f b t
     → nthHead f b n (length (opening (t .lines))) ≡ shownNth (frameSeen f) (putFrame f) (nth (framesAt f t) n)

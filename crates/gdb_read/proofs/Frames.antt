@@ -19,6 +19,7 @@ use Rattle.fields.specs.At.{bytes-short, bytes-at, num-short, num-at, step-none
 use Rattle.gdb_format.specs.Trace.{Block, Frame, dataOf}
 use Rattle.gdb_format.specs.Decode.{block, blocks, frameHead, frame}
 use Rattle.gdb_format.specs.ExactBlock.{exact-block, shorter-block}
+use Rattle.gdb_format.specs.FrameBytes.{headBytes, head-long, head-first}
 use Rattle.gdb_format.specs.ExactFrame.{exact-head, takes-head}
 use Rattle.gdb_format.specs.declared.Format.{Format}
 use Rattle.gdb_data.specs.Blocks.{blocksFill}
@@ -80,22 +81,8 @@ module _ (f : Format) (size : Option ℕ) (s : List ℕ) (at : ℕ) where
 
   module _ (row : Row) (m : ℕ) (t : Turn headSeen (frameHead f) s at row m) (b : Bytes s) where
     -- the bytes from the head on: its fields, the data, and the rest
-    laid-out : (field (f .order) 2 (t .element .0) ++ field (f .order) 4 (length (t .element .1))) ++ (t .element .1 ++ drop m s) ≡ drop at s
-    laid-out =
-        let h = t .element in
-        append-assoc (field (f .order) 2 (h .0)) (field (f .order) 4 (length (h .1))) (h .1 ++ drop m s)
-        ∙ ap (λ l. field (f .order) 2 (h .0) ++ l) (sym (append-assoc (field (f .order) 4 (length (h .1))) (h .1) (drop m s)))
-        ∙ sym (append-assoc (field (f .order) 2 (h .0)) (field (f .order) 4 (length (h .1)) ++ h .1) (drop m s))
-        ∙ ((exact-head f) .forth (drop at s) h (drop m s) (bytes-drop at s b) (t .read)) .1
-
-    head-length : length (field (f .order) 2 (t .element .0) ++ field (f .order) 4 (length (t .element .1))) ≡ 6
-    head-length =
-        omega (
-          arith,
-          length-append (field (f .order) 2 (t .element .0)) (field (f .order) 4 (length (t .element .1))),
-          length-field (f .order) 2 (t .element .0),
-          length-field (f .order) 4 (length (t .element .1)),
-        )
+    laid-out : headBytes f (t .element) ++ (t .element .1 ++ drop m s) ≡ drop at s
+    laid-out = head-first f (t .element) (drop m s) ∙ ((exact-head f) .forth (drop at s) (t .element) (drop m s) (bytes-drop at s b) (t .read)) .1
 
     place-is : row .place ≡ at + 6
     place-is = ap (λ (r : Row). r .place) (sym (t .shown))
@@ -103,9 +90,10 @@ module _ (f : Format) (size : Option ℕ) (s : List ℕ) (at : ℕ) where
     data-there : drop (row .place) (take m s) ≡ t .element .1
     data-there =
         let d = t .element .1 in
-        let a : List ℕ = field (f .order) 2 (t .element .0) ++ field (f .order) 4 (length d) in
-        let n : m ≡ at + 6 + length d = omega (arith, part-lengths s at a d (drop m s) laid-out, head-length, length-drop m s, t .within, t .later) in
-        rw (place-is, n) (part-front s (at + 6) (length d) (omega (arith, n, t .within)) ∙ rw head-length at (part-there s at a d (drop m s) laid-out))
+        let a : List ℕ = headBytes f (t .element) in
+        let six : length a ≡ 6 = head-long f (t .element) in
+        let n : m ≡ at + 6 + length d = omega (arith, part-lengths s at a d (drop m s) laid-out, six, length-drop m s, t .within, t .later) in
+        rw (place-is, n) (part-front s (at + 6) (length d) (omega (arith, n, t .within)) ∙ rw six at (part-there s at a d (drop m s) laid-out))
 
     blocks-there : blocksFill f size (drop (row .place) (take m s)) ≡ blocksFill f size (t .element .1)
     blocks-there = ap (blocksFill f size) data-there
