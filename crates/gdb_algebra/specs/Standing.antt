@@ -86,12 +86,15 @@ module _ {A : Type 0} (p : A → Bool) where
       by false e = e
 
   -- what is kept is element n, n being preceded by as many that are kept
-  filter-from : (l : List A) (k : ℕ) (g : A) → nth (filter p l) k ≡ accepted g → (n : ℕ) × (nth l n ≡ accepted g) × (p g ≡ true) × (length (filter p (take n l)) ≡ k)
+  filter-from : (l : List A) (k : ℕ) (g : A) → nth (filter p l) k ≡ accepted g
+      → (n : ℕ) × (nth l n ≡ accepted g) × (p g ≡ true) × (length (filter p (take n l)) ≡ k)
   filter-from [] k g e = never e
   filter-from (x ∷ l) k g e = by (p x) refl k (λ k e. filter-from l k g e) e
     where
-      by : (t : Bool) → p x ≡ t → (k : ℕ) → ((k : ℕ) → nth (filter p l) k ≡ accepted g → (n : ℕ) × (nth l n ≡ accepted g) × (p g ≡ true) × (length (filter p (take n l)) ≡ k))
-          → nth (cond t (x ∷ filter p l) (filter p l)) k ≡ accepted g → (n : ℕ) × (nth (x ∷ l) n ≡ accepted g) × (p g ≡ true) × (length (filter p (take n (x ∷ l))) ≡ k)
+      by : (t : Bool) → p x ≡ t → (k : ℕ)
+          → ((k : ℕ) → nth (filter p l) k ≡ accepted g → (n : ℕ) × (nth l n ≡ accepted g) × (p g ≡ true) × (length (filter p (take n l)) ≡ k))
+          → nth (cond t (x ∷ filter p l) (filter p l)) k ≡ accepted g
+          → (n : ℕ) × (nth (x ∷ l) n ≡ accepted g) × (p g ≡ true) × (length (filter p (take n (x ∷ l))) ≡ k)
       by true h zero ih e = (0, e, subst (λ z. p z ≡ true) (accepted-one e) h, refl)
       by true h (suc k) ih e = let q = ih k e in (suc (q .0), q .1, q .2, rw h (ap suc (q .3)))
       by false h k ih e = let q = ih k e in (suc (q .0), q .1, q .2, rw h (q .3))
@@ -115,7 +118,8 @@ same-number : (f : Format) (r g : Frame) → r .tracepoint < 2 ^ 16 → g .trace
 same-number f r g hr hg e =
     let o = f .order in
     let q : field o 2 (r .tracepoint) ≡ field o 2 (g .tracepoint) =
-    sym (take-at (field o 2 (r .tracepoint)) _ 2 (length-field o 2 (r .tracepoint))) ∙ ap (take 2) e ∙ take-at (field o 2 (g .tracepoint)) _ 2 (length-field o 2 (g .tracepoint)) in
+    sym (take-at (field o 2 (r .tracepoint)) _ 2 (length-field o 2 (r .tracepoint))) ∙ ap (take 2) e
+    ∙ take-at (field o 2 (g .tracepoint)) _ 2 (length-field o 2 (g .tracepoint)) in
     sym (number-field o 2 (r .tracepoint) hr) ∙ ap (number o) q ∙ number-field o 2 (g .tracepoint) hg
 
 module _ (f : Format) (c : Selection) (b d : List ℕ) (t : Trace) (i : File f b t) (j : File f d (cut c t)) where
@@ -130,7 +134,9 @@ module _ (f : Format) (c : Selection) (b d : List ℕ) (t : Trace) (i : File f b
       record {
         bytes = putFrame f x;
         there = ap (λ z. nth (framesOf f z) n) db ∙ nth-map (putFrame f) (t .frames) n x e;
-        here = ap₂ (λ z w. nth (framesOf f z) (countOf c n w)) dd db ∙ nth-map (putFrame f) (filter (picks c) (t .frames)) _ x (stands (picks c) (t .frames) n x e h);
+        here =
+            ap₂ (λ z w. nth (framesOf f z) (countOf c n w)) dd db
+            ∙ nth-map (putFrame f) (filter (picks c) (t .frames)) _ x (stands (picks c) (t .frames) n x e h);
       }
 
   -- what stands is selected
@@ -141,7 +147,8 @@ module _ (f : Format) (c : Selection) (b d : List ℕ) (t : Trace) (i : File f b
       let k = filter-from (picks c) (t .frames) _ (v .0) (v .1) in
       let fits = i .fits .frames-fit in
       let q : x .tracepoint ≡ (v .0) .tracepoint =
-      same-number f x (v .0) ((each-nth (FrameFits f (registerSize f (t .lines))) (t .frames) n x fits e) .0) ((each-nth (FrameFits f (registerSize f (t .lines))) (t .frames) (k .0) (v .0) fits (k .1)) .0)
+      same-number f x (v .0) ((each-nth (FrameFits f (registerSize f (t .lines))) (t .frames) n x fits e) .0)
+      ((each-nth (FrameFits f (registerSize f (t .lines))) (t .frames) (k .0) (v .0) fits (k .1)) .0)
       (ap (putFrame f) (accepted-one (sym e ∙ u .1)) ∙ u .2 ∙ sym (v .2)) in
       ap (selects c) q ∙ k .2
 
@@ -173,6 +180,13 @@ module _ (f : Format) (c : Selection) (b d x : List ℕ) (t : Trace) (i : File f
 
       by : (r : Frame) → nth (t .frames) n ≡ accepted r → (w : Bool) → picks c r ≡ w → ExactlyOne (StandsIn f c b d n) (StandsIn f (opposite c) b x n)
       by r e true p =
-          inl (made f c b d t i j n r e p, λ y. let z : _≡_ {A = Bool} true false = sym (chosen f (opposite c) b x t i k n r e y) ∙ other r true p in clash (cc))
+          inl (
+            made f c b d t i j n r e p,
+            λ y. let z : _≡_ {A = Bool} true false = sym (chosen f (opposite c) b x t i k n r e y)
+                ∙ other r true p in clash (cc),
+          )
       by r e false p =
-          inr ((λ y. let z : _≡_ {A = Bool} true false = sym (chosen f c b d t i j n r e y) ∙ p in clash (cc)), made f (opposite c) b x t i k n r e (other r false p))
+          inr (
+            (λ y. let z : _≡_ {A = Bool} true false = sym (chosen f c b d t i j n r e y) ∙ p in clash (cc)),
+            made f (opposite c) b x t i k n r e (other r false p),
+          )

@@ -33,9 +33,11 @@ module _ (f : Format) (b : List ℕ) (t : Trace) (i : File f b t) where
   line-named j = by (nth (linesAt t) j) refl
     where
       by : (x : Answer (ℕ × List ℕ)) → nth (linesAt t) j ≡ x
-          → mapped (named b) (next {A = LineKind × (ℕ × ℕ)} (next x (λ r. accepted (kindOf (r .1), (r .0, length (r .1))))) (λ r. accepted (r .1))) ≡ mapped withLength (lineHeld j f t)
+          → mapped (named b) (next {A = LineKind × (ℕ × ℕ)} (next x (λ r. accepted (kindOf (r .1), (r .0, length (r .1))))) (λ r. accepted (r .1)))
+          ≡ mapped withLength (lineHeld j f t)
       by (accepted r) e =
-          ap (λ z. accepted (length (r .1), z)) (line-is f b t i j (r .0) (r .1) e) ∙ sym (ap (mapped withLength) (placed-is putLine (t .lines) 8 j (r .0) (r .1) e))
+          ap (λ z. accepted (length (r .1), z)) (line-is f b t i j (r .0) (r .1) e)
+          ∙ sym (ap (mapped withLength) (placed-is putLine (t .lines) 8 j (r .0) (r .1) e))
       by (refused k) e = sym (ap (mapped withLength) (sym (placed-nth putLine (t .lines) 8 j) ∙ ap (λ y. next y (λ r. accepted (r .1))) e))
 
   data-named : (n : ℕ) → mapped (named b) (frameData n f t) ≡ mapped withLength (dataHeld n f t)

@@ -81,7 +81,8 @@ module _ {B : Type 0} (f : Format) (b : List ℕ) (place : ℕ × Block → Opti
   earliest-placed [] at rest e = refl
   earliest-placed (x ∷ xs) at rest e =
       let i : drop at b ≡ putBlock f x ++ (concatMap (putBlock f) xs ++ rest) = e ∙ append-assoc (putBlock f x) (concatMap (putBlock f) xs) rest in
-      let j : drop (at + length (putBlock f x)) b ≡ concatMap (putBlock f) xs ++ rest = part-behind b at (putBlock f x) (concatMap (putBlock f) xs) rest (sym i) in
+      let j : drop (at + length (putBlock f x)) b ≡ concatMap (putBlock f) xs ++ rest =
+      part-behind b at (putBlock f x) (concatMap (putBlock f) xs) rest (sym i) in
       ap₂ orLater (same at x (concatMap (putBlock f) xs ++ rest) i) (earliest-placed xs (at + length (putBlock f x)) rest j)
 
   found-held : (t : Trace) (n : ℕ) → File f b t → inFrame n (earliest place) f t ≡ heldIn n g f t

@@ -51,12 +51,14 @@ heads-fit : (f : Format) (size : Option ℕ) (fs : List Frame) → Each (FrameFi
 heads-fit f size [] h = tt
 heads-fit f size (r ∷ fs) h = ((h .0 .0, h .0 .1), heads-fit f size fs (h .1))
 
-heads-of : (f : Format) (size : Option ℕ) (fs : List Frame) → Each (FrameFits f size) fs → toEnd (frameHead f) (concatMap (putFrame f) fs) ≡ accepted (map (headIn f) fs)
+heads-of : (f : Format) (size : Option ℕ) (fs : List Frame) → Each (FrameFits f size) fs
+    → toEnd (frameHead f) (concatMap (putFrame f) fs) ≡ accepted (map (headIn f) fs)
 heads-of f size fs h =
     rw (← heads-bytes f fs) (back-toEnd (exact-head f) (shorter 1 (frameHead f) (omega arith) (takes-head f)) (map (headIn f) fs) (heads-fit f size fs h))
 
 -- the heads that are kept are those of the frames that are
-kept-frames : (f : Format) (c : Selection) (fs : List Frame) → concatMap (putData f) (filter (λ h. selects c (h .0)) (map (headIn f) fs)) ≡ concatMap (putFrame f) (filter (picks c) fs)
+kept-frames : (f : Format) (c : Selection) (fs : List Frame)
+    → concatMap (putData f) (filter (λ h. selects c (h .0)) (map (headIn f) fs)) ≡ concatMap (putFrame f) (filter (picks c) fs)
 kept-frames f c [] = refl
 kept-frames f c (r ∷ fs) = by (picks c r) (kept-frames f c fs)
   where
@@ -105,7 +107,8 @@ filter-less : {A : Type 0} (put : A → List ℕ) (p : A → Bool) (xs : List A)
 filter-less put p [] = omega arith
 filter-less put p (x ∷ xs) = by (p x) (filter-less put p xs)
   where
-    by : (t : Bool) → length (concatMap put (filter p xs)) ≤ length (concatMap put xs) → length (concatMap put (cond t (x ∷ filter p xs) (filter p xs))) ≤ length (put x ++ concatMap put xs)
+    by : (t : Bool) → length (concatMap put (filter p xs)) ≤ length (concatMap put xs)
+        → length (concatMap put (cond t (x ∷ filter p xs) (filter p xs))) ≤ length (put x ++ concatMap put xs)
     by true h = omega (arith, h, length-append (put x) (concatMap put (filter p xs)), length-append (put x) (concatMap put xs))
     by false h = omega (arith, h, length-append (put x) (concatMap put xs))
 
@@ -114,9 +117,11 @@ kept-less : (f : Format) (c : Selection) (b : List ℕ) → Bytes b → Heads f 
 unfolding kept
 kept-less f c b hb h =
     let e = (forth-toEnd (exact-head f) (shorter 1 (frameHead f) (omega arith) (takes-head f)) b (h .0) hb (h .1)) .1 in
-    let k : length (keptOf f c (toEnd (frameHead f) b)) ≡ length (concatMap (putData f) (filter (λ g. selects c (g .0)) (h .0))) = ap (λ x. length (keptOf f c x)) (h .1) in
+    let k : length (keptOf f c (toEnd (frameHead f) b)) ≡ length (concatMap (putData f) (filter (λ g. selects c (g .0)) (h .0))) =
+    ap (λ x. length (keptOf f c x)) (h .1) in
     omega (arith, k, filter-less (putData f) (λ g. selects c (g .0)) (h .0), ap length e)
 
 pub room-for-file : (f : Format) (c : Selection) (b : List ℕ) (start room : ℕ) → Bytes b → start ≤ length b → Heads f (drop start b) → length b ≤ room
     → true ≡ leb (start + length (kept f c (drop start b))) room
-room-for-file f c b start room hb s h l = sym (le-leb (start + length (kept f c (drop start b))) room (omega (arith, kept-less f c (drop start b) (bytes-drop start b hb) h, length-drop start b)))
+room-for-file f c b start room hb s h l =
+    sym (le-leb (start + length (kept f c (drop start b))) room (omega (arith, kept-less f c (drop start b) (bytes-drop start b hb) h, length-drop start b)))

@@ -47,8 +47,10 @@ module _ (f : Format) (b : List ℕ) (at : ℕ) where
 
     head-bytes : putData f (turn .element) ≡ take (m - at) (drop at b)
     head-bytes =
-        let w : putData f (turn .element) ++ drop m b ≡ drop at b = ((exact-head f) .forth (drop at b) (turn .element) (drop m b) (bytes-drop at b bs) (turn .read)) .1 in
-        let n : length (putData f (turn .element)) ≡ m - at = omega (arith, ap length w, length-append (putData f (turn .element)) (drop m b), length-drop m b, length-drop at b, turn .later, turn .within) in
+        let w : putData f (turn .element) ++ drop m b ≡ drop at b =
+        ((exact-head f) .forth (drop at b) (turn .element) (drop m b) (bytes-drop at b bs) (turn .read)) .1 in
+        let n : length (putData f (turn .element)) ≡ m - at =
+        omega (arith, ap length w, length-append (putData f (turn .element)) (drop m b), length-drop m b, length-drop at b, turn .later, turn .within) in
         sym (ap (take (m - at)) (sym w) ∙ take-at (putData f (turn .element)) (drop m b) (m - at) n)
 
     number-is : turn .element .0 ≡ v .tracepoint

@@ -62,7 +62,8 @@ module _ {A : Type 0} where
   concatMap-parts f p (x ∷ l) = by (p x) (concatMap-parts f p l)
     where
       by : (t : Bool) → length (concatMap f (filter p l)) + length (concatMap f (filter (λ x. not (p x)) l)) ≡ length (concatMap f l)
-          → length (concatMap f (cond t (x ∷ filter p l) (filter p l))) + length (concatMap f (cond (not t) (x ∷ filter (λ x. not (p x)) l) (filter (λ x. not (p x)) l))) ≡ length (concatMap f (x ∷ l))
+          → length (concatMap f (cond t (x ∷ filter p l) (filter p l))) + length
+          (concatMap f (cond (not t) (x ∷ filter (λ x. not (p x)) l) (filter (λ x. not (p x)) l))) ≡ length (concatMap f (x ∷ l))
       by true e = simp length-append (omega arith)
       by false e = simp length-append (omega arith)
 

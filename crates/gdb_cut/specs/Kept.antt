@@ -29,6 +29,11 @@ cutResult f start d c = take start d ++ kept f (meaning c) (drop start d)
 abbrev pub cutLength : Format → ℕ → List ℕ → lent.Selection → ℕ
 cutLength f start d c = start + length (kept f (meaning c) (drop start d))
 
+-- an output that was written: the cut, and behind it what stood there
+pub record Wrote (f : Format) (start : ℕ) (d : List ℕ) (c : lent.Selection) (before : List ℕ) (r : ℕ) (after : List ℕ) : Type 0 where
+  pub long : r ≡ cutLength f start d c
+  pub bytes : after ≡ cutResult f start d c ++ drop r before
+
 -- heads with their data fill b
 abbrev pub Heads : Format → List ℕ → Type 0
 Heads f b = (hs : List (ℕ × List ℕ)) × (toEnd (frameHead f) b ≡ accepted hs)

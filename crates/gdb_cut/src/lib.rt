@@ -1,12 +1,11 @@
 // Cutting GDB traces into an output that the caller lends.
 ghost use mathlib.Core.Path.{_≡_};
-ghost use mathlib.Core.List.{_++_};
 ghost use Prim.Native.Nat.{_≤_};
 ghost use lib.Dec.{leb};
 ghost use lib.ListN.{length, drop};
 ghost use Rattle.fields.specs.Output.{Lent};
 ghost use Rattle.gdb_cut.specs.Cut.{cutOf, editMeaning};
-ghost use Rattle.gdb_cut.specs.Kept.{Heads, cutResult, cutLength};
+ghost use Rattle.gdb_cut.specs.Kept.{Heads, cutLength, Wrote};
 use gdb_format::Format;
 use gdb_format::Settings;
 use gdb_read::FrameStep;
@@ -65,7 +64,7 @@ fn write_cut(
     out: &mut [u8],
 ) -> usize
     requires { ⌜ (start ≤ length (now file)) × Heads format (drop start (now file)) × (cutLength format start (now file) selection ≤ length (now out)) ⌝ }
-    ensures { λ r. ⌜ (r ≡ cutLength format start (now (file .entry)) selection) × (now (out .exit) ≡ cutResult format start (now (file .entry)) selection ++ drop r (now (out .entry))) ⌝ }
+    ensures { λ r. ⌜ Wrote format start (now (file .entry)) selection (now (out .entry)) r (now (out .exit)) ⌝ }
 {
     bytes::copy(&file[..start], out);
     let mut len = start;

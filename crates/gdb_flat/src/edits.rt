@@ -4,8 +4,8 @@ ghost use Rattle.gdb_cut.specs.Cut.{editMeaning};
 ghost use Rattle.gdb_pair.specs.Pair.{pairPlaceMeaning};
 ghost use Rattle.gdb_flat.specs.Flat.{flatLength, flatPair, selectionIn, flatSelection};
 use gdb_cut::EditAnswer;
-use gdb_select::Range;
 use gdb_pair::PairPlace;
+use gdb_select::Range;
 
 // A selection as C has it: `keep` is 0 for the numbers in none of the ranges, any other value for those in some.
 #[repr(C)]

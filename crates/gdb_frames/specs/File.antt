@@ -36,7 +36,8 @@ pub record File (f : Format) (b : List ℕ) (t : Trace) : Type 0 where
 pub frames-behind : (f : Format) (b : List ℕ) (t : Trace) → File f b t → drop (length (opening (t .lines))) b ≡ concatMap (putFrame f) (t .frames)
 unfolding encode
 frames-behind f b t i =
-    ap (drop (length (opening (t .lines)))) (sym (i .laid-out)) ∙ drop-at (opening (t .lines)) (concatMap (putFrame f) (t .frames)) (length (opening (t .lines))) refl
+    ap (drop (length (opening (t .lines)))) (sym (i .laid-out))
+    ∙ drop-at (opening (t .lines)) (concatMap (putFrame f) (t .frames)) (length (opening (t .lines))) refl
 
 -- from where they start to where they end
 pub frames-part : (f : Format) (b : List ℕ) (t : Trace) → File f b t
@@ -84,7 +85,8 @@ pub front-file : (f : Format) (b : List ℕ) (t : Trace) → File f b t → File
 front-file f b t i = subst (λ d. File f d t) (sym (frames-front f b t i)) i
 
 -- what the whole reading's answer tells
-pub summary-inv : (m : Summary) (x : Answer (Format × Trace)) → accepted m ≡ readSeen x → (r : Format × Trace) × (x ≡ accepted r) × (summaryOf (r .0) (r .1) ≡ m)
+pub summary-inv : (m : Summary) (x : Answer (Format × Trace)) → accepted m ≡ readSeen x
+    → (r : Format × Trace) × (x ≡ accepted r) × (summaryOf (r .0) (r .1) ≡ m)
 summary-inv m x e = let q = next-inv x (λ r. accepted (summaryOf (r .0) (r .1))) (sym e) in (q .0, q .1, accepted-one (q .2))
 
 pub lines-behind : (f : Format) (b : List ℕ) (t : Trace) → File f b t → drop 8 b ≡ concatMap putLine (t .lines) ++ 0x0A ∷ concatMap (putFrame f) (t .frames)

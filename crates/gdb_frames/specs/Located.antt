@@ -79,21 +79,25 @@ module _ {A C : Type 0} (view : ℕ → A → C) (put : A → List ℕ) where
   shown-never k (accepted r) e = never e
   shown-never k (refused n) e = never e
 
-pub located-row : (s : Settings) (b : List ℕ) (f : Format) (t : Trace) (n a : ℕ) (r : Frame) → read s b ≡ accepted (f, t) → nth (framesAt f t) n ≡ accepted (a, r)
+pub located-row : (s : Settings) (b : List ℕ) (f : Format) (t : Trace) (n a : ℕ) (r : Frame) → read s b ≡ accepted (f, t)
+    → nth (framesAt f t) n ≡ accepted (a, r)
     → accepted (f, (registerSize f (t .lines), frameSeen f a r)) ≡ asked s b (frameLocated n)
 located-row s b f t n a r e g = rw (e, g)
 
 module _ {s : Settings} {b : List ℕ} {m : Summary} (w : WasRead s b m) (n : ℕ) where
-  pub located-some : (v : Row) (k : ℕ) → accepted (some (v, k)) ≡ nthHead (m .format) (take (m .end) b) n (m .start) → accepted (m .format, (m .size, v)) ≡ asked s b (frameLocated n)
+  pub located-some : (v : Row) (k : ℕ) → accepted (some (v, k)) ≡ nthHead (m .format) (take (m .end) b) n (m .start)
+      → accepted (m .format, (m .size, v)) ≡ asked s b (frameLocated n)
   located-some v k =
-      told s b (w .bytes) m (w .summed) (λ m. accepted (some (v, k)) ≡ nthHead (m .format) (take (m .end) b) n (m .start) → accepted (m .format, (m .size, v)) ≡ asked s b (frameLocated n))
+      told s b (w .bytes) m (w .summed) (λ m. accepted (some (v, k)) ≡ nthHead (m .format) (take (m .end) b) n (m .start)
+      → accepted (m .format, (m .size, v)) ≡ asked s b (frameLocated n))
       (λ f t r i g.
       let q = shown-some (frameSeen f) (putFrame f) v k (nth (framesAt f t) n) (g ∙ head-front f b t n i) in
       ap (λ z. accepted (f, (registerSize f (t .lines), z))) (q .2) ∙ located-row s b f t n (q .0 .0) (q .0 .1) r (q .1))
 
   pub located-none : accepted none ≡ nthHead (m .format) (take (m .end) b) n (m .start) → refused notFound ≡ asked s b (frameLocated n)
   located-none =
-      told s b (w .bytes) m (w .summed) (λ m. accepted none ≡ nthHead (m .format) (take (m .end) b) n (m .start) → refused notFound ≡ asked s b (frameLocated n))
+      told s b (w .bytes) m (w .summed) (λ m. accepted none ≡ nthHead (m .format) (take (m .end) b) n (m .start)
+      → refused notFound ≡ asked s b (frameLocated n))
       (λ f t r i g. rw (r, shown-none (frameSeen f) (putFrame f) (framesAt f t) n (g ∙ head-front f b t n i)))
 
   pub located-never : {X : Type 0} (k : ℕ) → refused k ≡ nthHead (m .format) (take (m .end) b) n (m .start) → X

@@ -71,7 +71,8 @@ module _ {A B C : Type 0} (view : ℕ → B → C) (p : Reader B) (h : A → B) 
   within : (at : ℕ) (a b : List ℕ) → at ≤ length s → drop at s ≡ a ++ b → at + length a ≤ length s
   within at a b l e = omega (arith, length-drop at s, ap length e, length-append a b)
 
-  step-there : (at : ℕ) (x : A) (b : List ℕ) → F x → at ≤ length s → drop at s ≡ put x ++ b → stepAt view p s at ≡ accepted (some (view at (h x), at + length (put x)))
+  step-there : (at : ℕ) (x : A) (b : List ℕ) → F x → at ≤ length s → drop at s ≡ put x ++ b
+      → stepAt view p s at ≡ accepted (some (view at (h x), at + length (put x)))
   step-there at x b g l e =
       let k = within at (put x) b l e in
       step-read view p s at (h x) (at + length (put x)) (omega (arith, fill x)) k
@@ -140,7 +141,8 @@ module _ (s rest : List ℕ) where
       ap lineOf (e ∙ append-assoc (putLine l) (concatMap putLine ls) (0x0A ∷ rest) ∙ append-assoc l (0x0A ∷ []) (concatMap putLine ls ++ 0x0A ∷ rest))
       ∙ line-front l (concatMap putLine ls ++ 0x0A ∷ rest) h
 
-  lines-after : (at : ℕ) (l : List ℕ) (ls : List (List ℕ)) → drop at s ≡ concatMap putLine (l ∷ ls) ++ 0x0A ∷ rest → drop (at + length (putLine l)) s ≡ concatMap putLine ls ++ 0x0A ∷ rest
+  lines-after : (at : ℕ) (l : List ℕ) (ls : List (List ℕ)) → drop at s ≡ concatMap putLine (l ∷ ls) ++ 0x0A ∷ rest
+      → drop (at + length (putLine l)) s ≡ concatMap putLine ls ++ 0x0A ∷ rest
   lines-after at l ls e =
       sym (drop-drop (length (putLine l)) at s) ∙ ap (drop (length (putLine l))) (e ∙ append-assoc (putLine l) (concatMap putLine ls) (0x0A ∷ rest))
       ∙ drop-at (putLine l) (concatMap putLine ls ++ 0x0A ∷ rest) (length (putLine l)) refl

@@ -99,7 +99,8 @@ module _ (f : Format) (b : List ℕ) (t : Trace) (i : File f b t) (n a : ℕ) (r
 
 -- ---- answers of questions lie in the file
 
-pub in-file : (s : Settings) (b : List ℕ) (q : Format → Trace → Answer (ℕ × ℕ)) → Bytes b → ((f : Format) (t : Trace) → File f b t → InFile b (q f t)) → InFile b (asked s b q)
+pub in-file : (s : Settings) (b : List ℕ) (q : Format → Trace → Answer (ℕ × ℕ)) → Bytes b → ((f : Format) (t : Trace) → File f b t → InFile b (q f t))
+    → InFile b (asked s b q)
 in-file s b q h g r e =
     let u = next-inv (read s b) (λ r. q (r .0) (r .1)) e in
     g (u .0 .0) (u .0 .1) (file-of s b (u .0 .0) (u .0 .1) h (u .1)) r (u .2)
@@ -111,7 +112,14 @@ frame-in-file s b n h =
     let v = next-inv (nth (framesAt f t) n) _ (u .1) in
     let p = accepted-one (v .2) in
     let q = accepted-one (u .2) in
-    omega (arith, frame-within f b t i n (v .0 .0) (v .0 .1) (v .1), ap (λ (z : Row). z .place) p, ap (λ (z : Row). z .size) p, ap (λ (z : ℕ × ℕ). z .0) q, ap (λ (z : ℕ × ℕ). z .1) q))
+    omega (
+      arith,
+      frame-within f b t i n (v .0 .0) (v .0 .1) (v .1),
+      ap (λ (z : Row). z .place) p,
+      ap (λ (z : Row). z .size) p,
+      ap (λ (z : ℕ × ℕ). z .0) q,
+      ap (λ (z : ℕ × ℕ). z .1) q,
+    ))
 
 module _ (f : Format) (b : List ℕ) (t : Trace) (i : File f b t) (j a : ℕ) (l : List ℕ) (g : nth (linesAt t) j ≡ accepted (a, l)) where
   line-there : (rest : List ℕ) × (drop a b ≡ l ++ 0x0A ∷ rest)

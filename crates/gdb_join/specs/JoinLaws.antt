@@ -66,7 +66,8 @@ pub record Both (s : Settings) (a b : List ℕ) (f : Format) (t u : Trace) : Typ
 one-format : (s : Settings) (b : List ℕ) (f g : Format) (u : Trace) → Bytes b → settingsOf s ≡ accepted f → read s b ≡ accepted (g, u) → g ≡ f
 one-format s b f g u h ok e = accepted-one (sym (((read-exactness s b g u h) .0 e) .0) ∙ ok)
 
-both-read : (s : Settings) (a b : List ℕ) (f g : Format) (t u : Trace) → Bytes a → Bytes b → read s a ≡ accepted (f, t) → read s b ≡ accepted (g, u) → (g ≡ f) × Both s a b f t u
+both-read : (s : Settings) (a b : List ℕ) (f g : Format) (t u : Trace) → Bytes a → Bytes b → read s a ≡ accepted (f, t) → read s b ≡ accepted (g, u)
+    → (g ≡ f) × Both s a b f t u
 both-read s a b f g t u ha hb p q =
     let i : g ≡ f = one-format s b f g u hb (((read-exactness s a f t ha) .0 p) .0) q in
     let r : read s b ≡ accepted (f, u) = q ∙ ap (λ x. accepted (x, u)) i in
@@ -165,14 +166,17 @@ module _ {s : Settings} {a b : List ℕ} {m k : Summary} (v : WasRead s a m) (w 
 
 -- an accepted join tells its files
 pub join-inv : (s : Settings) (a b c : List ℕ) → Bytes a → Bytes b → joinOf s a b ≡ accepted c
-    → (f : Format) × (t : Trace) × (u : Trace) × Both s a b f t u × (sameBytes (opening (t .lines)) (opening (u .lines)) ≡ true) × (length (encode f (join t u)) ≤ limit) × (encode f (join t u) ≡ c)
+    → (f : Format) × (t : Trace) × (u : Trace) × Both s a b f t u × (sameBytes (opening (t .lines)) (opening (u .lines)) ≡ true)
+    × (length (encode f (join t u)) ≤ limit) × (encode f (join t u) ≡ c)
 unfolding joinOf
 join-inv s a b c ha hb e =
     let p = next-inv (read s a) _ e in
     let q = next-inv (read s b) _ (p .2) in
     let r = both-read s a b (p .0 .0) (q .0 .0) (p .0 .1) (q .0 .1) ha hb (p .1) (q .1) in
-    let v = cond-inv (sameBytes (opening (p .0 .1 .lines)) (opening (q .0 .1 .lines))) (withinLimit (encode (p .0 .0) (join (p .0 .1) (q .0 .1)))) openingsDiffer (q .2) in
-    let w = cond-inv (leb (length (encode (p .0 .0) (join (p .0 .1) (q .0 .1)))) limit) (accepted (encode (p .0 .0) (join (p .0 .1) (q .0 .1)))) tooLong (v .1) in
+    let v = cond-inv (sameBytes (opening (p .0 .1 .lines)) (opening (q .0 .1 .lines))) (withinLimit (encode (p .0 .0) (join (p .0 .1) (q .0 .1))))
+    openingsDiffer (q .2) in
+    let w = cond-inv (leb (length (encode (p .0 .0) (join (p .0 .1) (q .0 .1)))) limit) (accepted (encode (p .0 .0) (join (p .0 .1) (q .0 .1)))) tooLong (v .1)
+    in
     (p .0 .0, p .0 .1, q .0 .1, r .1, v .0, leb-true _ limit (w .0), accepted-one (w .1))
 
 pair-refused : (s : Settings) (a b : List ℕ) (n : ℕ) → Bytes a → Bytes b → refused n ≡ pairSeen s a b → joinOf s a b ≡ refused n

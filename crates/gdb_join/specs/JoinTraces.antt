@@ -32,7 +32,8 @@ pub length-join : (f : Format) (t u : Trace)
 length-join f t u =
     length-encode f (join t u)
     ∙ ap (λ n. length (opening (t .lines)) + n)
-    (ap length (concatMap-append (putFrame f) (t .frames) (u .frames)) ∙ length-append (concatMap (putFrame f) (t .frames)) (concatMap (putFrame f) (u .frames)))
+    (ap length (concatMap-append (putFrame f) (t .frames) (u .frames))
+    ∙ length-append (concatMap (putFrame f) (t .frames)) (concatMap (putFrame f) (u .frames)))
 
 -- a join is no shorter than its second trace
 pub join-longer : (f : Format) (t u : Trace) → t .lines ≡ u .lines → length (encode f u) ≤ length (encode f (join t u))

@@ -51,7 +51,8 @@ joined s a b c ha hb e =
     let t = q .1 in
     let u = q .2 in
     let i = q .3 in
-    let l : t .lines ≡ u .lines = same-lines f (t .lines) (u .lines) (i .first-file .fits .lines-fit) (i .second-file .fits .lines-fit) (same-bytes _ _ (q .4)) in
+    let l : t .lines ≡ u .lines = same-lines f (t .lines) (u .lines) (i .first-file .fits .lines-fit) (i .second-file .fits .lines-fit) (same-bytes _ _ (q .4))
+    in
     let j : File f c (join t u) = record { fits = layout-join f t u (i .first-file .fits) (i .second-file .fits) l (q .5); laid-out = q .6 } in
     let ok : settingsOf s ≡ accepted f = ((read-exactness s a f t ha) .0 (i .first-read)) .0 in
     (f, t, u, record { both = i; gives = e; join-file = j; join-read = read-file s f c (join t u) ok j })
@@ -74,7 +75,8 @@ found-in f t n = by (nth (framesAt f t) n) refl
     by : (x : Answer (ℕ × Frame)) → nth (framesAt f t) n ≡ x
         → foundPlace (shownNth (frameSeen f) (putFrame f) x) ≡ next (next x (λ r. accepted (frameSeen f (r .0) (r .1)))) (λ v. accepted (dataIn v))
     by (accepted r) e = refl
-    by (refused j) e = ap refused (refused-same (sym e ∙ shown-none (frameSeen f) (putFrame f) (framesAt f t) n (ap (shownNth (frameSeen f) (putFrame f)) (sym e))))
+    by (refused j) e =
+        ap refused (refused-same (sym e ∙ shown-none (frameSeen f) (putFrame f) (framesAt f t) n (ap (shownNth (frameSeen f) (putFrame f)) (sym e))))
 
 found-data : (f : Format) (b : List ℕ) (t : Trace) (n : ℕ) → File f b t
     → foundPlace (nthHead f (take (framesEnd f t) b) n (length (opening (t .lines)))) ≡ frameData n f t
@@ -103,13 +105,15 @@ frameBytes f (refused n) = []
 abbrev pub placeOf : Format → Answer (ℕ × Frame) → Answer (ℕ × ℕ)
 placeOf f x = next (next x (λ r. accepted (frameSeen f (r .0) (r .1)))) (λ v. accepted (dataIn v))
 
-pub frame-part : (f : Format) (b : List ℕ) (t : Trace) (n : ℕ) → File f b t → (part b (frameData n f t) ≡ frameBytes f (nth (t .frames) n)) × InFile b (frameData n f t)
+pub frame-part : (f : Format) (b : List ℕ) (t : Trace) (n : ℕ) → File f b t
+    → (part b (frameData n f t) ≡ frameBytes f (nth (t .frames) n)) × InFile b (frameData n f t)
 frame-part f b t n i = by (nth (framesAt f t) n) refl
   where
     by : (x : Answer (ℕ × Frame)) → nth (framesAt f t) n ≡ x → (part b (placeOf f x) ≡ frameBytes f (nth (t .frames) n)) × InFile b (placeOf f x)
     by (accepted r) e =
         let w = frame-within f b t i n (r .0) (r .1) e in
-        let d : take (length (dataOf f (r .1))) (drop (r .0 + 6) b) ≡ dataOf f (r .1) = sym (part-front b (r .0 + 6) (length (dataOf f (r .1))) w) ∙ data-there f b t i n (r .0) (r .1) e in
+        let d : take (length (dataOf f (r .1))) (drop (r .0 + 6) b) ≡ dataOf f (r .1) = sym (part-front b (r .0 + 6) (length (dataOf f (r .1))) w)
+        ∙ data-there f b t i n (r .0) (r .1) e in
         let x = placed-is (putFrame f) (t .frames) (length (opening (t .lines))) n (r .0) (r .1) e in
         (d ∙ sym (ap (frameBytes f) x), λ y z. let q = accepted-one z in omega (arith, w, ap (λ (z : ℕ × ℕ). z .0) q, ap (λ (z : ℕ × ℕ). z .1) q))
     by (refused j) e =
@@ -156,7 +160,8 @@ module _ (s : Settings) (a b c : List ℕ) (f : Format) (t u : Trace) (i : Joine
       ∙ sym ((frame-part f c (join t u) n (i .join-file)) .0) ∙ ap (part c) (sym asked-join)
 
 -- "It equals frame n of the join."
-pub pair-is-join : (s : Settings) (a b c : List ℕ) (n : ℕ) → Bytes a → Bytes b → joinOf s a b ≡ accepted c → pairPart a b (pairPlace s a b n) ≡ part c (asked s c (frameData n))
+pub pair-is-join : (s : Settings) (a b c : List ℕ) (n : ℕ) → Bytes a → Bytes b → joinOf s a b ≡ accepted c
+    → pairPart a b (pairPlace s a b n) ≡ part c (asked s c (frameData n))
 pair-is-join s a b c n ha hb e = let q = joined s a b c ha hb e in part-is s a b c (q .0) (q .1) (q .2) (q .3) n
 
 -- ---- the part that is handed back
@@ -174,7 +179,8 @@ side-in s a b n x r ha hb e =
     let i = q .3 in
     by (q .0) (q .1) (q .2) i (ltb n (length (q .1 .frames))) (sym (e ∙ place-is s a b (p .0) (q .0) (q .1) (q .2) i n))
   where
-    one : (f : Format) (t : Trace) (d : List ℕ) (k : ℕ) (y z : Side) → File f d t → onSide y (frameData k f t) ≡ accepted (z, r) → (y ≡ z) × (r .0 + r .1 ≤ length d)
+    one : (f : Format) (t : Trace) (d : List ℕ) (k : ℕ) (y z : Side) → File f d t → onSide y (frameData k f t) ≡ accepted (z, r)
+        → (y ≡ z) × (r .0 + r .1 ≤ length d)
     one f t d k y z i e =
         let q = next-inv (frameData k f t) (λ r. accepted (y, r)) e in
         let w : _≡_ {A = Side × (ℕ × ℕ)} (y, q .0) (z, r) = accepted-one (q .2) in
@@ -189,14 +195,16 @@ side-in s a b n x r ha hb e =
 pub handed-none : (a b r : List ℕ) (x : Answer (Side × (ℕ × ℕ))) (n : ℕ) → refused n ≡ x → r ≡ [] → HandedPair a b x r
 handed-none a b r x n e g = rw (← e, g) (record { is-part = refl; is-long = refl })
 
-pub handed-first : (s : Settings) (a b r : List ℕ) (n : ℕ) (q : ℕ × ℕ) → Bytes a → Bytes b → accepted (first, q) ≡ pairPlace s a b n → r ≡ partNamed a (accepted q) → HandedPair a b (pairPlace s a b n) r
+pub handed-first : (s : Settings) (a b r : List ℕ) (n : ℕ) (q : ℕ × ℕ) → Bytes a → Bytes b → accepted (first, q) ≡ pairPlace s a b n
+    → r ≡ partNamed a (accepted q) → HandedPair a b (pairPlace s a b n) r
 unfolding SideIn
 handed-first s a b r n q ha hb e g =
     let k = side-in s a b n first q ha hb e in
     let w = handed a r (accepted q) (λ y z. let i = accepted-one z in omega (arith, k, ap (λ (z : ℕ × ℕ). z .0) i, ap (λ (z : ℕ × ℕ). z .1) i)) g in
     rw (← e) (record { is-part = w .is-part; is-long = w .is-long })
 
-pub handed-second : (s : Settings) (a b r : List ℕ) (n : ℕ) (q : ℕ × ℕ) → Bytes a → Bytes b → accepted (second, q) ≡ pairPlace s a b n → r ≡ partNamed b (accepted q) → HandedPair a b (pairPlace s a b n) r
+pub handed-second : (s : Settings) (a b r : List ℕ) (n : ℕ) (q : ℕ × ℕ) → Bytes a → Bytes b → accepted (second, q) ≡ pairPlace s a b n
+    → r ≡ partNamed b (accepted q) → HandedPair a b (pairPlace s a b n) r
 unfolding SideIn
 handed-second s a b r n q ha hb e g =
     let k = side-in s a b n second q ha hb e in

@@ -32,7 +32,8 @@ module _ (f : Format) (s : List ℕ) (at : ℕ) (h : at < length s) where
   unfolding frameHead
   head-none l =
       sym (step-fault headSeen (frameHead f) s at shortHead h
-      (by-cases (decLe 2 (length s - at)) (λ k. rw (num-at s at (f .order) 2 shortHead (omega arith) k, num-short s (at + 2) (f .order) 4 shortHead (omega arith)))
+      (by-cases (decLe 2 (length s - at))
+      (λ k. rw (num-at s at (f .order) 2 shortHead (omega arith) k, num-short s (at + 2) (f .order) 4 shortHead (omega arith)))
       (λ k. rw (num-short s at (f .order) 2 shortHead (lt-of-not-le k)))))
 
   module _ (l : 6 ≤ length s - at) (n k : ℕ) (e : n ≡ wordAt (f .order) 2 s at) (g : k ≡ wordAt (f .order) 4 s (at + 2)) where
@@ -47,7 +48,13 @@ module _ (f : Format) (s : List ℕ) (at : ℕ) (h : at < length s) where
     head-over v =
         let i : at + 2 + 4 ≡ at + 6 = omega arith in
         sym (step-fault headSeen (frameHead f) s at dataPastFile h
-        (rw (num-at s at (f .order) 2 shortHead (omega arith) (omega arith), num-at s (at + 2) (f .order) 4 shortHead (omega arith) (omega arith), i, ← size-is, bytes-short s (at + 6) k dataPastFile v)))
+        (rw (
+          num-at s at (f .order) 2 shortHead (omega arith) (omega arith),
+          num-at s (at + 2) (f .order) 4 shortHead (omega arith) (omega arith),
+          i,
+          ← size-is,
+          bytes-short s (at + 6) k dataPastFile v,
+        )))
 
     head-body : k ≤ length s - (at + 6) → frameHead f (drop at s) ≡ accepted ((n, take k (drop (at + 6) s)), drop (at + 6 + k) s)
     unfolding frameHead
@@ -62,7 +69,8 @@ module _ (f : Format) (s : List ℕ) (at : ℕ) (h : at < length s) where
           bytes-at s (at + 6) k dataPastFile (omega arith) v,
         )
 
-    pub head-whole : k ≤ length s - (at + 6) → accepted (some (record { tracepoint = n; place = at + 6; size = k }, at + 6 + k)) ≡ stepAt headSeen (frameHead f) s at
+    pub head-whole : k ≤ length s - (at + 6)
+        → accepted (some (record { tracepoint = n; place = at + 6; size = k }, at + 6 + k)) ≡ stepAt headSeen (frameHead f) s at
     head-whole v =
         sym (step-read headSeen (frameHead f) s at (n, take k (drop (at + 6) s)) (at + 6 + k) h (omega arith) (head-body v)
         ∙ rw (length-part s (at + 6) k (omega arith)))

@@ -90,7 +90,8 @@ returns-3 c =
 
 -- there is room where the code goes on to write
 room : (c : tie.Else2) → let h = c .before .before in needed h ≤ length (to-start h .args .out .now)
-room c = let h = c .before .before in leb-true (needed h) (length (to-start h .args .out .now)) (sym (c .before .has-room .ensures) ∙ not-false _ (c .if2 .left))
+room c =
+    let h = c .before .before in leb-true (needed h) (length (to-start h .args .out .now)) (sym (c .before .has-room .ensures) ∙ not-false _ (c .if2 .left))
 
 returns-4 : tie.Need-returns-4
 returns-4 c =
@@ -98,7 +99,7 @@ returns-4 c =
     let a = to-start h .args in
     let w = c .before .before .write-cut in
     lent-written (cutOf (a .settings) (a .selection) (a .file .now)) (a .out .now) _ (w .result) (w .last .1 .1 .1 .1 .0) (gives h)
-    (w .ensures .0 ∙ sym (long h)) (omega (arith, long h, room (search))) (w .ensures .1)
+    (w .ensures .long ∙ sym (long h)) (omega (arith, long h, room (search))) (w .ensures .bytes)
 
 has-room-requires : tie.Need-has-room-requires
 has-room-requires c κs = (start-there (was-read c) (is-front c), heads-there (was-read c) (is-front c))

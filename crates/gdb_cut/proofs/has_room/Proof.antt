@@ -13,7 +13,8 @@ returns : tie.Need-returns
 returns c =
     let a = c .before .before .args in
     let p = c .before .before .pre in
-    room-for-file (a .format) (meaning (a .selection)) (a .file .now) (a .start) (a .room) (bytes-given (a .file .now) (c .before .shared-slice-known .given)) (p .0) (p .1) (omega arith)
+    room-for-file (a .format) (meaning (a .selection)) (a .file .now) (a .start) (a .room) (bytes-given (a .file .now) (c .before .shared-slice-known .given))
+    (p .0) (p .1) (omega arith)
 
 returns-2 : tie.Need-returns-2
 returns-2 c = let start : tie.Start = search in ap (λ n. leb n (start .args .room)) (c .cut-length .ensures)

@@ -88,7 +88,8 @@ loop-again-2 c =
 
 -- what is written and what is to come is the whole, and the output is as long as it was
 room : (h : Loop) → let a = Begun h .args in
-    (h .loop .len + length (kept (a .format) (meaning (a .selection)) (drop (h .loop .at) (a .file .now))) ≡ cutLength (a .format) (a .start) (a .file .now) (a .selection))
+    (h .loop .len + length (kept (a .format) (meaning (a .selection)) (drop (h .loop .at) (a .file .now)))
+    ≡ cutLength (a .format) (a .start) (a .file .now) (a .selection))
     × (length (h .loop .out) ≡ length (a .out .now))
 room h =
     let at-copy : tie.After-copy Inv-loop μ-loop = search in
@@ -114,12 +115,13 @@ returns c =
     let w : List ℕ = take (a .start) (a .file .now) in
     let n : length w ≡ a .start = length-take-le (a .start) (a .file .now) (q .pre .0) in
     let e = kept-end (a .format) (a .file .now) (l .at) s (at-case frameMeaning (c .enum-told .given .1) (search)) in
-    let t : l .len ≡ cutLength (a .format) (a .start) (a .file .now) (a .selection) = omega (arith, (room h) .0, ap length e) in (
-      t,
-      l .inv .4
+    let t : l .len ≡ cutLength (a .format) (a .start) (a .file .now) (a .selection) = omega (arith, (room h) .0, ap length e) in
+    record {
+      long = t;
+      bytes = l .inv .4
           ∙ ap₂ (λ x z. x ++ z) (sym (append-nil (l .inv .2)) ∙ ap (λ x. l .inv .2 ++ x) (sym e) ∙ l .inv .5)
-          (first-rest w (a .out .now) (k .last .1 .0) (k .result) (k .ensures .0) (k .ensures .1) (l .len) (omega (arith, n, t))),
-    )
+          (first-rest w (a .out .now) (k .last .1 .0) (k .result) (k .ensures .0) (k .ensures .1) (l .len) (omega (arith, n, t)));
+    }
 
 returns-2 : tie.Need-returns-2 Inv-loop μ-loop
 returns-2 c =

@@ -28,7 +28,8 @@ returns-2 c =
     let start : tie.Start = search in
     let a = start .args in
     let g = c .before .before .place .given in
-    handed-first (a .settings) (a .first .now) (a .second .now) (c .part-of .result .now) (a .n) (g .0 .0, g .0 .1 .0) (first-bytes (search)) (second-bytes (search))
+    handed-first (a .settings) (a .first .now) (a .second .now) (c .part-of .result .now) (a .n) (g .0 .0, g .0 .1 .0) (first-bytes (search))
+    (second-bytes (search))
     (at-case pairPlaceMeaning (g .1) (search)) (c .part-of .ensures)
 
 returns-3 : tie.Need-returns-3
@@ -36,7 +37,8 @@ returns-3 c =
     let start : tie.Start = search in
     let a = start .args in
     let g = c .before .before .place2 .given in
-    handed-second (a .settings) (a .first .now) (a .second .now) (c .part-of2 .result .now) (a .n) (g .0 .0, g .0 .1 .0) (first-bytes (search)) (second-bytes (search))
+    handed-second (a .settings) (a .first .now) (a .second .now) (c .part-of2 .result .now) (a .n) (g .0 .0, g .0 .1 .0) (first-bytes (search))
+    (second-bytes (search))
     (at-case pairPlaceMeaning (g .1) (search)) (c .part-of2 .ensures)
 
 pub pair-frame-spec : {M : Type 1} → statement M
