@@ -13,7 +13,7 @@ use lib.Dec.{ltb}
 use borrow.Author.Tests.{ltb-true}
 use Rattle.refusals.specs.Refusal.{notFound}
 use Rattle.fields.specs.Lists.{concatMap, regroup, part-behind, part-there, piece-there}
-use Rattle.fields.specs.Number.{Bytes, field, length-field}
+use Rattle.fields.specs.Number.{Bytes, field, length-field, field-before}
 use Rattle.fields.specs.Answer.{Answer, accepted, refused, next, never, next-cong, next-assoc, refused-inv, accepted-inj}
 use Rattle.fields.specs.Element.{nth, nth-refused}
 use Rattle.gdb_format.specs.Trace.{Block, registers, memory, variable, Frame, Trace, opening, putBlock, putFrame}
@@ -55,7 +55,7 @@ pub memory-there : (f : Format) (b : List ℕ) (at a : ℕ) (d rest : List ℕ) 
 memory-there f b at a d rest e =
     let x : List ℕ = field (f .order) 8 a in
     let y : List ℕ = field (f .order) 2 (length d) in
-    let n : length (0x4D ∷ x ++ y) ≡ 11 = omega (arith, length-append x y, length-field (f .order) 8 a, length-field (f .order) 2 (length d)) in
+    let n : length (0x4D ∷ x ++ y) ≡ 11 = omega (arith, field-before (f .order) 8 a y, length-field (f .order) 2 (length d)) in
     let i : (0x4D ∷ x ++ y) ++ (d ++ rest) ≡ drop at b = ap (λ l. 0x4D ∷ l) (regroup x y d rest) ∙ sym e in
     rw n at (part-there b at (0x4D ∷ x ++ y) d rest i)
 

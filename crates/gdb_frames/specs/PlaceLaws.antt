@@ -1,17 +1,18 @@
 -- What stands at the place that an answer names: the element's own bytes, within the file.
 -- Assumes nothing.
-use mathlib.Core.Path.{_≡_, refl, sym, ap, _∙_, subst}
+use mathlib.Core.Path.{_≡_, refl, sym, ap, _∙_}
 use Prim.Native.Nat.{ℕ, zero, suc, _+_, _≤_}
 use native.Mathlib.Omega.{arith}
 use mathlib.Core.List.{List, [], _∷_, _++_, append-assoc, append-nil}
 use lib.ListN.{length, take, drop, length-append, length-drop}
 use lib.Seq.{take-at}
 use borrow.Author.Tests.{le-leb}
-use Rattle.fields.specs.Lists.{concatMap, Each, regroup, length-part, part-front, part-behind, part-there, part-lengths}
-use Rattle.fields.specs.Number.{Bytes, field, length-field}
+use Rattle.fields.specs.Lists.{concatMap, length-part, part-front, part-behind, part-there, part-lengths}
+use Rattle.fields.specs.Number.{Bytes}
 use Rattle.fields.specs.Answer.{Answer, accepted, refused, next, never, next-inv, next-assoc, accepted-one, accepted-inj}
 use Rattle.fields.specs.Element.{nth}
-use Rattle.gdb_format.specs.Trace.{Frame, Trace, putLine, putFrame, dataOf, opening}
+use Rattle.gdb_format.specs.FrameBytes.{headBytes, head-long, head-first}
+use Rattle.gdb_format.specs.Trace.{Frame, Trace, putLine, headIn, putFrame, dataOf, opening}
 use Rattle.gdb_format.specs.Decode.{read}
 use Rattle.gdb_format.specs.declared.Settings.{Settings}
 use Rattle.gdb_format.specs.declared.Format.{Format}
@@ -54,7 +55,7 @@ placed-then put xs at n q = sym (next-assoc (nth (placed put at xs) n) (λ r. ac
 abbrev pub InFile : List ℕ → Answer (ℕ × ℕ) → Type 0
 InFile b x = (r : ℕ × ℕ) → x ≡ accepted r → r .0 + r .1 ≤ length b
 
--- such a part is handed back whole
+-- such a part is handed back (headIn f r)
 pub handed : (b r : List ℕ) (x : Answer (ℕ × ℕ)) → InFile b x → r ≡ partNamed b x → Handed b x r
 handed b r (refused n) i e = record { is-part = e; is-long = ap length e }
 handed b r (accepted q) i e =
@@ -65,37 +66,24 @@ handed b r (accepted q) i e =
 -- ---- the data of frame n
 
 module _ (f : Format) (b : List ℕ) (t : Trace) (i : File f b t) (n a : ℕ) (r : Frame) (g : nth (framesAt f t) n ≡ accepted (a, r)) where
-  frame-there : (rest : List ℕ) × ((field (f .order) 2 (r .tracepoint) ++ field (f .order) 4 (length (dataOf f r))) ++ (dataOf f r ++ rest) ≡ drop a b)
+  frame-there : (rest : List ℕ) × (headBytes f (headIn f r) ++ (dataOf f r ++ rest) ≡ drop a b)
   frame-there =
       let e = frames-behind f b t i ∙ sym (append-nil (concatMap (putFrame f) (t .frames))) in
       let q = placed-there (putFrame f) b n (t .frames) [] (length (opening (t .lines))) a r e g in
-      (q .0, regroup (field (f .order) 2 (r .tracepoint)) (field (f .order) 4 (length (dataOf f r))) (dataOf f r) (q .0) ∙ sym (q .1))
-
-  head-long : length (field (f .order) 2 (r .tracepoint) ++ field (f .order) 4 (length (dataOf f r))) ≡ 6
-  head-long =
-      omega (
-        arith,
-        length-append (field (f .order) 2 (r .tracepoint)) (field (f .order) 4 (length (dataOf f r))),
-        length-field (f .order) 2 (r .tracepoint),
-        length-field (f .order) 4 (length (dataOf f r)),
-      )
+      (q .0, head-first f (headIn f r) (q .0) ∙ sym (q .1))
 
   -- the data, and what follows them
   pub data-behind : (rest : List ℕ) × (drop (a + 6) b ≡ dataOf f r ++ rest)
-  data-behind =
-      let h : List ℕ = field (f .order) 2 (r .tracepoint) ++ field (f .order) 4 (length (dataOf f r)) in
-      (frame-there .0, rw head-long at (part-behind b a h (dataOf f r) (frame-there .0) (frame-there .1)))
+  data-behind = (frame-there .0, rw (head-long f (headIn f r)) at (part-behind b a (headBytes f (headIn f r)) (dataOf f r) (frame-there .0) (frame-there .1)))
 
   pub frame-within : a + 6 + length (dataOf f r) ≤ length b
-  frame-within =
-      let h : List ℕ = field (f .order) 2 (r .tracepoint) ++ field (f .order) 4 (length (dataOf f r)) in
-      omega (arith, part-lengths b a h (dataOf f r) (frame-there .0) (frame-there .1), head-long)
+  frame-within = omega (arith, part-lengths b a (headBytes f (headIn f r)) (dataOf f r) (frame-there .0) (frame-there .1), head-long f (headIn f r))
 
   -- the data, as the end of the file up to there
   pub data-there : drop (a + 6) (take (a + 6 + length (dataOf f r)) b) ≡ dataOf f r
   data-there =
-      let h : List ℕ = field (f .order) 2 (r .tracepoint) ++ field (f .order) 4 (length (dataOf f r)) in
-      part-front b (a + 6) (length (dataOf f r)) frame-within ∙ rw head-long at (part-there b a h (dataOf f r) (frame-there .0) (frame-there .1))
+      part-front b (a + 6) (length (dataOf f r)) frame-within
+      ∙ rw (head-long f (headIn f r)) at (part-there b a (headBytes f (headIn f r)) (dataOf f r) (frame-there .0) (frame-there .1))
 
 -- ---- answers of questions lie in the file
 
