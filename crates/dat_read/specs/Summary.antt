@@ -15,7 +15,7 @@ use Rattle.dat_read.specs.declared.summary.TextParts.{TextParts}
 use Rattle.dat_read.specs.declared.summary.EndingKind.{EndingKind}
 use Rattle.dat_read.specs.declared.summary.EndingKind.the-variants.{Latency, Flyrecord}
 use Rattle.dat_read.specs.declared.summary.Summary.{Summary}
-use Rattle.dat_read.specs.declared.tail.TailParts.{TailParts}
+use Rattle.dat_read.specs.declared.summary.TailParts.{TailParts}
 
 abbrev pub part : ℕ → ℕ → Part
 part at n = record { place = at; size = n }

@@ -21,7 +21,7 @@ use Rattle.dat_format.specs.Decode.{header, checked, decode}
 use Rattle.dat_format.specs.Entries.{entryAt, entries, nth-entry, no-entry}
 use Rattle.dat_format.specs.Exactness.{exact-header, exactness}
 use Rattle.dat_read.specs.Summary.{kindOf, summary, summarySeen}
-use Rattle.dat_read.specs.Parts.{entries-are}
+use Rattle.dat_walk.specs.Parts.{entries-are}
 use Rattle.dat_read.specs.declared.summary.EndingKind.the-variants.{Latency, Flyrecord}
 use Rattle.dat_read.specs.declared.summary.Summary.{Summary}
 use Rattle.tracedat.specs.Ranges.{rangeOf, verdict}

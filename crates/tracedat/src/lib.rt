@@ -3,9 +3,9 @@ mod ranges;
 
 ghost use mathlib.Core.Path.{_≡_};
 ghost use Rattle.tracedat.specs.Questions.{summaryMeaning, summed, rangeMeaning, cpuRange};
-use dat_read::Walked;
 use dat_read::summary::EndingKind;
 use dat_read::summary::Summary;
+use dat_walk::Walked;
 use ranges::Test;
 use ranges::Verdict;
 use refusals::BAD_RANGE;
@@ -26,7 +26,7 @@ pub fn summary(file: &[u8]) -> SummaryAnswer
     if LIMIT < file.len() {
         return SummaryAnswer::Refused(TOO_LONG);
     }
-    match dat_read::walk(file) {
+    match dat_walk::walk(file) {
         Walked::Refused(n) => SummaryAnswer::Refused(n),
         Walked::Header { summary, end } => {
             let ending = summary.ending;

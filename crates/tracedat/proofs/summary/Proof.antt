@@ -6,7 +6,7 @@ use Rattle.fields.specs.Number.{Bytes}
 use Rattle.fields.specs.Answer.{accepted}
 use Rattle.fields.specs.Reader.{seenAt}
 use Rattle.dat_format.specs.Decode.{header}
-use Rattle.dat_read.specs.Steps.{walkMeaning}
+use Rattle.dat_walk.specs.Steps.{walkMeaning}
 use Rattle.dat_read.specs.Summary.{summarySeen}
 use lib.ListN.{length}
 use Rattle.tracedat.proofs.SummaryLaws.{Summarised, page-some, room, too-long, bad-walk, summarised, accept-text, bad-range, overlap, accept-entries}
