@@ -7,7 +7,8 @@ use lib.ListN.{length}
 use Rattle.fields.specs.Lists.{concatMap}
 use Rattle.fields.specs.declared.Order.{Order}
 use Rattle.dat_format.specs.Pieces.{putSized}
-use Rattle.dat_format.specs.Header.{Opening, Sections, Texts, Opt, Ending, latency, flyrecord, Tail, Header, putSystem, putList, putOpening, putSections, putTexts, encode}
+use Rattle.dat_format.specs.Header.{Opening, Sections, Texts, Opt, Ending, latency, flyrecord, Tail, Header}
+use Rattle.dat_format.specs.Header.{putSystem, putList, putOpening, putSections, putTexts, encode}
 use Rattle.dat_read.specs.declared.summary.Part.{Part}
 use Rattle.dat_read.specs.declared.summary.Flags.{Flags}
 use Rattle.dat_read.specs.declared.summary.SectionParts.{SectionParts}

@@ -201,5 +201,7 @@ module _ {s : List ℕ} {f : Flags} {a : ℕ} {ps : SectionParts} {b : ℕ} {ts 
   all-read {body} e =
       let g = qz .opened in
       let ea : length (putOpening (whole .opening)) ≡ a = omega (arith, g .got .place) in
-      let same = summary-is (length s) whole f ps ts tp body a b c end ea (sym (qz .got .place)) (sym (tz .got .place)) end-is (g .shown) (qz .shown) (tz .shown) (z .shown) e in
+      let same =
+      summary-is (length s) whole f ps ts tp body a b c end ea (sym (qz .got .place)) (sym (tz .got .place)) end-is (g .shown) (qz .shown)
+      (tz .shown) (z .shown) e in
       ap (λ v. accepted (v, end)) same ∙ seen (summarySeen (length s)) header s 0 whole end (z .got .inside) header-is

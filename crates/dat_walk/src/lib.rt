@@ -2,7 +2,6 @@
 mod opening;
 
 ghost use mathlib.Core.Path.{_≡_};
-ghost use Prim.Native.Nat.{_≤_};
 ghost use lib.ListN.{length};
 ghost use Rattle.fields.specs.Reader.{seenAt};
 ghost use Rattle.dat_format.specs.Decode.{header};

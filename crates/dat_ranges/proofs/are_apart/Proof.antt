@@ -10,20 +10,21 @@ returns c = let a = c .before .args in first-empty (a .first) (a .first-size) (a
 
 returns-2 : tie.Need-returns-2
 returns-2 c =
-    let a = c .before .before .args in
+    let q : tie.Start = search in
+    let a = q .args in
     second-empty (a .first) (a .first-size) (a .second) (a .second-size) (c .before .if1 .left) (c .if2 .taken)
 
 returns-3 : tie.Need-returns-3
 returns-3 c =
-    let e : tie.Else2 = search in
-    let a = e .before .before .args in
-    first-low (a .first) (a .first-size) (a .second) (a .second-size) (e .before .if1 .left) (e .if2 .left) (omega arith)
+    let q : tie.Start = search in
+    let a = q .args in
+    first-low (a .first) (a .first-size) (a .second) (a .second-size) (search) (search) (omega arith)
 
 returns-4 : tie.Need-returns-4
 returns-4 c =
-    let e : tie.Else2 = search in
-    let a = e .before .before .args in
-    second-low (a .first) (a .first-size) (a .second) (a .second-size) (e .before .if1 .left) (e .if2 .left) (omega arith)
+    let q : tie.Start = search in
+    let a = q .args in
+    second-low (a .first) (a .first-size) (a .second) (a .second-size) (search) (search) (omega arith)
 
 pub are-apart-spec : {M : Type 1} → statement M
 are-apart-spec =

@@ -10,10 +10,10 @@ returns c = let a = c .before .args in leads-empty (a .last) (a .start) (a .leng
 
 returns-4 : tie.Need-returns-4
 returns-4 c =
-    let e : tie.Else1 = search in
-    let a = e .before .args in
+    let q : tie.Start = search in
+    let a = q .args in
     let sum = c .before .before .wrapping-add-u64 in
-    leads-on (a .last) (a .start) (a .length) (e .if1 .left) (omega arith) (sum .result)
+    leads-on (a .last) (a .start) (a .length) (search) (omega arith) (sum .result)
     (wrap-free (a .start) (a .length) (sum .result) (omega arith) (omega arith) (sum .ensures) (omega arith))
 
 pub end-after-spec : {M : Type 1} → statement M

@@ -7,12 +7,14 @@ use Rattle.dat_ranges.proofs.ends_within.Tie as tie
 
 returns : tie.Need-returns
 returns c =
-    let a = c .before .before .args in
+    let q : tie.Start = search in
+    let a = q .args in
     wraps (a .total) (a .offset) (a .size) _ (omega arith) (omega arith) (c .before .wrapping-add-u64 .ensures) (omega arith) (omega arith)
 
 returns-2 : tie.Need-returns-2
 returns-2 c =
-    let a = c .before .before .args in
+    let q : tie.Start = search in
+    let a = q .args in
     no-wrap (a .total) (a .offset) (a .size) _ (omega arith) (omega arith) (c .before .wrapping-add-u64 .ensures) (omega arith)
 
 pub ends-within-spec : {M : Type 1} → statement M

@@ -20,21 +20,21 @@ returns c = let a = c .before .args in empty-in (a .page) (a .end) (a .total) (a
 
 returns-2 : tie.Need-returns-2
 returns-2 c =
-    let e : tie.Else1 = search in
-    let a = e .before .args in
-    misaligned (a .page) (a .end) (a .total) (a .offset) (a .size) (e .if1 .left) (tested (c .before .is-aligned .ensures) (not-true _ (c .if2 .taken)))
+    let q : tie.Start = search in
+    let a = q .args in
+    misaligned (a .page) (a .end) (a .total) (a .offset) (a .size) (search) (tested (c .before .is-aligned .ensures) (not-true _ (c .if2 .taken)))
 
 returns-3 : tie.Need-returns-3
 returns-3 c =
-    let e : tie.Else1 = search in
-    let a = e .before .args in
-    too-early (a .page) (a .end) (a .total) (a .offset) (a .size) (e .if1 .left) (is-aligned (search)) (omega arith)
+    let q : tie.Start = search in
+    let a = q .args in
+    too-early (a .page) (a .end) (a .total) (a .offset) (a .size) (search) (is-aligned (search)) (omega arith)
 
 returns-4 : tie.Need-returns-4
 returns-4 c =
-    let e : tie.Else1 = search in
-    let a = e .before .args in
-    up-to-end (a .page) (a .end) (a .total) (a .offset) (a .size) (e .if1 .left) (is-aligned (search)) (omega arith) _ (c .ends-within .ensures)
+    let q : tie.Start = search in
+    let a = q .args in
+    up-to-end (a .page) (a .end) (a .total) (a .offset) (a .size) (search) (is-aligned (search)) (omega arith) _ (c .ends-within .ensures)
 
 pub in-file-spec : {M : Type 1} → statement M
 in-file-spec =

@@ -11,10 +11,13 @@ use borrow.Author.Needs.{needs}
 use Rattle.dat_ranges.proofs.judge.Statement.{statement}
 use Rattle.dat_ranges.proofs.judge.Tie as tie
 
-is-possible : (k : tie.Else1) → possible (k .before .before .before .args .test) ≡ true
+abbrev start : tie.Else1 → tie.Start
+start k = k .before .before .before
+
+is-possible : (k : tie.Else1) → possible (start k .args .test) ≡ true
 is-possible k = tested (k .before .is-possible .ensures) (not-false _ (k .if1 .left))
 
-all-there : (k : tie.Else2) → let a = k .before .before .before .before .before .args in a .from + 16 * a .n ≤ length (a .s .now)
+all-there : (k : tie.Else2) → let a = start (k .before .before) .args in a .from + 16 * a .n ≤ length (a .s .now)
 all-there k = leb-true _ _ (tested (k .before .are-there .ensures) (not-false _ (k .if2 .left)))
 
 returns : tie.Need-returns

@@ -13,12 +13,14 @@ in-file-requires c κs = let q : tie.Start = search in leb-true _ _ (at-case pos
 returns : tie.Need-returns
 returns c =
     let q : tie.Start = search in
-    c .in-file .ensures ∙ ap (λ t. testOf t (rangeOf (q .args .offset) (q .args .size))) (sym (c .before .before .test .given .1))
+    let t : tie.After-test = search in
+    c .in-file .ensures ∙ ap (λ t. testOf t (rangeOf (q .args .offset) (q .args .size))) (sym (t .test .given .1))
 
 returns-2 : tie.Need-returns-2
 returns-2 c =
     let q : tie.Start = search in
-    c .are-apart .ensures ∙ ap (λ t. testOf t (rangeOf (q .args .offset) (q .args .size))) (sym (c .before .before .test2 .given .1))
+    let t : tie.After-test2 = search in
+    c .are-apart .ensures ∙ ap (λ t. testOf t (rangeOf (q .args .offset) (q .args .size))) (sym (t .test2 .given .1))
 
 pub passes-spec : {M : Type 1} → statement M
 passes-spec =

@@ -45,7 +45,7 @@ systems d = sectioned (formats (to-c d)) (d .d .given .1) (search)
 -- ---- the answers
 
 returns : tie.Need-returns
-returns c = let q = c .before .before .args in past-end (q .order) (q .s .now) (q .at) (omega arith)
+returns c = let i : tie.Start = search in let q = i .args in past-end (q .order) (q .s .now) (q .at) (omega arith)
 
 returns-2 : tie.Need-returns-2
 returns-2 c = bad-page (begun (search)) (c .before .n .given .1) (search)
@@ -62,25 +62,12 @@ returns-5 c = bad-systems (formats (search)) (c .before .n4 .given .1) (search)
 returns-6 : tie.Need-returns-6
 returns-6 c = sections-read (systems (search)) (search) (search) (search) (search) (search) (search)
 
--- ---- the needs
-
-add-span : tie.Need-add-span
-add-span c = omega (arith, parts-lie (systems (search)))
-
-add-span-2 : tie.Need-add-span-2
-add-span-2 c = omega (arith, parts-lie (systems (search)))
-
-add-span-3 : tie.Need-add-span-3
-add-span-3 c = omega (arith, parts-lie (systems (search)))
-
-add-span-4 : tie.Need-add-span-4
-add-span-4 c = omega (arith, parts-lie (systems (search)))
-
 pub sections-at-spec : {M : Type 1} → statement M
 sections-at-spec =
     tie.close
     (tie.spec returns (λ c. search needs) (λ c κs. begun (search) .inside) (λ c. search needs) (λ c. search needs) (λ c. search needs)
     (λ c κs. page (search) .page .inside) (λ c. search needs) (λ c. search needs) (λ c κs. event (search) .event .inside) (λ c. search needs)
-    (λ c. search needs) (λ c κs. formats (search) .formats .inside) (λ c. search needs) (λ c. search needs) add-span (λ c κs. search needs)
-    add-span-2 (λ c κs. search needs) add-span-3 (λ c κs. search needs) add-span-4 (λ c κs. search needs) (λ c κs. search needs)
-    (λ c κs. search needs) returns-2 returns-3 returns-4 returns-5 returns-6)
+    (λ c. search needs) (λ c κs. formats (search) .formats .inside) (λ c. search needs) (λ c. search needs)
+    (λ c. omega (arith, parts-lie (systems (search)))) (λ c κs. search needs) (λ c. omega (arith, parts-lie (systems (search)))) (λ c κs. search needs)
+    (λ c. omega (arith, parts-lie (systems (search)))) (λ c κs. search needs) (λ c. omega (arith, parts-lie (systems (search)))) (λ c κs. search needs)
+    (λ c κs. search needs) (λ c κs. search needs) returns-2 returns-3 returns-4 returns-5 returns-6)

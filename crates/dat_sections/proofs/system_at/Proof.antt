@@ -7,7 +7,6 @@ use Rattle.dat_format.specs.ExactPieces.{exact-name}
 use Rattle.dat_read.specs.Read.{gone-on}
 use Rattle.dat_sections.proofs.SectionLaws.{bad-name, system-next}
 use borrow.Author.Needs.{needs}
-use native.Mathlib.Omega.{arith}
 use Rattle.dat_sections.proofs.system_at.Statement.{statement}
 use Rattle.dat_sections.proofs.system_at.Tie as tie
 

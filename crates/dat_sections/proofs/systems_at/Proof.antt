@@ -7,7 +7,9 @@ use Rattle.dat_sections.proofs.systems_at.Statement.{statement}
 use Rattle.dat_sections.proofs.systems_at.Tie as tie
 
 returns : tie.Need-returns
-returns c = let a = c .before .before .args in counted-none (system (a .order)) (a .order) (a .s .now) (a .at) (omega arith) (omega arith)
+returns c =
+    let start : tie.Start = search in
+    let a = start .args in counted-none (system (a .order)) (a .order) (a .s .now) (a .at) (omega arith) (omega arith)
 
 returns-2 : tie.Need-returns-2
 returns-2 c =

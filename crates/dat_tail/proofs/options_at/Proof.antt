@@ -20,12 +20,15 @@ abbrev μ-loop : tie.MeasureT-loop
 abbrev Loop : Type 0
 Loop = tie.At-loop Inv-loop μ-loop
 
+abbrev start : Loop → tie.Start Inv-loop μ-loop
+start h = h .before .before
+
 abbrev to-loop : tie.After-next Inv-loop μ-loop → Loop
 to-loop c = c .before .before .before .before .before .before
 
 -- the option that a turn read
 option : (c : tie.After-next Inv-loop μ-loop) → let h = to-loop c in
-    let a = h .before .before .args in Turned (a .order) (a .s .now) (a .from) (h .loop .at) (c .next .given .0 .0)
+    let a = start h .args in Turned (a .order) (a .s .now) (a .from) (h .loop .at) (c .next .given .0 .0)
 option c =
     let e : tie.Else1 Inv-loop μ-loop = search in
     let b : tie.After-shared-slice-known Inv-loop μ-loop = search in
@@ -34,19 +37,19 @@ option c =
     (bytes-given (a .s .now) (b .shared-slice-known .given)) (c .next .given .1) (search)
 
 returns : tie.Need-returns Inv-loop μ-loop
-returns c = let h : Loop = search in options-end (h .before .before .args .order) (h .loop .inv) (omega arith) (c .before .u16-at .ensures) (c .if1 .taken)
+returns c = let h : Loop = search in options-end (start h .args .order) (h .loop .inv) (omega arith) (c .before .u16-at .ensures) (c .if1 .taken)
 
 returns-2 : tie.Need-returns-2 Inv-loop μ-loop
 returns-2 c =
     let h : Loop = search in
     let e : tie.Else1 Inv-loop μ-loop = search in
-    options-stop (h .before .before .args .order) (h .loop .inv) (omega arith) (e .before .u16-at .ensures) (e .if1 .left) (c .before .n .given .1) (search)
+    options-stop (start h .args .order) (h .loop .inv) (omega arith) (e .before .u16-at .ensures) (e .if1 .left) (c .before .n .given .1) (search)
 
 loop-again : tie.Need-loop-again Inv-loop μ-loop
 loop-again c = option (search) .going
 
 returns-3 : tie.Need-returns-3 Inv-loop μ-loop
-returns-3 c = let h : Loop = search in options-none (h .before .before .args .order) (h .loop .inv) (omega arith)
+returns-3 c = let h : Loop = search in options-none (start h .args .order) (h .loop .inv) (omega arith)
 
 loop-less : tie.Need-loop-less Inv-loop μ-loop
 loop-less c = omega (arith, option (search) .further, option (search) .going .inside)

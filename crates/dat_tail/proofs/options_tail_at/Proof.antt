@@ -4,7 +4,6 @@ use Rattle.dat_format.specs.ExactTail.{exact-options}
 use Rattle.dat_read.specs.Read.{gone-on}
 use Rattle.dat_tail.proofs.TailLaws.{Worded, worded, Listed, bad-options, bad-second, with-options}
 use borrow.Author.Needs.{needs}
-use native.Mathlib.Omega.{arith}
 use Rattle.dat_tail.proofs.options_tail_at.Statement.{statement}
 use Rattle.dat_tail.proofs.options_tail_at.Tie as tie
 

@@ -18,7 +18,7 @@ first c =
     worded (bytes-given (b .before .args .s .now) (b .shared-slice-known .given)) (omega arith) (c .word .given .1) (search)
 
 returns : tie.Need-returns
-returns c = let a = c .before .before .args in past-end (a .order) (a .cpus) (a .s .now) (a .at) (omega arith)
+returns c = let q : tie.Start = search in let a = q .args in past-end (a .order) (a .cpus) (a .s .now) (a .at) (omega arith)
 
 returns-2 : tie.Need-returns-2
 returns-2 c =

@@ -9,7 +9,7 @@ use Rattle.dat_tail.proofs.word_at.Statement.{statement}
 use Rattle.dat_tail.proofs.word_at.Tie as tie
 
 returns : tie.Need-returns
-returns c = let a = c .before .before .args in no-word (a .s .now) (a .at) (omega arith) (omega arith)
+returns c = let q : tie.Start = search in let a = q .args in no-word (a .s .now) (a .at) (omega arith) (omega arith)
 
 returns-2 : tie.Need-returns-2
 returns-2 c = let q : tie.Start = search in word-is (q .args .s .now) (q .args .at) (omega arith) (omega arith) (some optionsWord) (search (tested))

@@ -19,7 +19,7 @@ the-header : (c : tie.After-summary) → let f = c .summary .given .0 in Found (
 the-header c = found (bytes-given (file c) (entry c .shared-slice-known .given)) (omega arith) (c .summary .given .1) (search)
 
 returns : tie.Need-returns
-returns c = too-long (c .before .before .args .file .now) (omega arith)
+returns c = let q : tie.Start = search in too-long (q .args .file .now) (omega arith)
 
 returns-2 : tie.Need-returns-2
 returns-2 c = let q : tie.Start = search in bad-walk (q .args .file .now) (omega arith) (c .before .n .given .1) (search)
@@ -28,13 +28,13 @@ returns-3 : tie.Need-returns-3
 returns-3 c = accept-text (the-header (search)) (c .enum-told .given .1)
 
 returns-4 : tie.Need-returns-4
-returns-4 c = bad-range (the-header (search)) (search) (c .enum-told3 .given .1) (c .before .before .judge .ensures)
+returns-4 c = bad-range (the-header (search)) (search) (c .enum-told3 .given .1) (search)
 
 returns-5 : tie.Need-returns-5
-returns-5 c = overlap (the-header (search)) (search) (c .enum-told4 .given .1) (c .before .before .judge .ensures)
+returns-5 c = overlap (the-header (search)) (search) (c .enum-told4 .given .1) (search)
 
 returns-6 : tie.Need-returns-6
-returns-6 c = accept-entries (the-header (search)) (search) (c .enum-told5 .given .1) (c .before .before .judge .ensures)
+returns-6 c = accept-entries (the-header (search)) (search) (c .enum-told5 .given .1) (search)
 
 pub summary-spec : {M : Type 1} → statement M
 summary-spec =

@@ -6,7 +6,7 @@ use Rattle.dat_walk.proofs.opening.flags_at.Statement.{statement}
 use Rattle.dat_walk.proofs.opening.flags_at.Tie as tie
 
 returns : tie.Need-returns
-returns c = let a = c .before .before .args in no-order (a .s .now) (a .at) (omega arith)
+returns c = let q : tie.Start = search in let a = q .args in no-order (a .s .now) (a .at) (omega arith)
 
 returns-2 : tie.Need-returns-2
 returns-2 c =

@@ -17,7 +17,7 @@ is-long : (k : tie.Else2) → let a = start k .args in isLong (getD (a .s .now) 
 is-long k = tested (k .before .is-long .ensures) (not-false _ (k .if2 .left))
 
 returns : tie.Need-returns
-returns c = let a = c .before .before .args in no-long (a .s .now) (a .order) (a .at) (omega arith)
+returns c = let q : tie.Start = search in let a = q .args in no-long (a .s .now) (a .order) (a .at) (omega arith)
 
 returns-2 : tie.Need-returns-2
 returns-2 c =
@@ -31,15 +31,13 @@ returns-3 c = let a = start (search) .args in no-page (a .s .now) (a .order) (a 
 returns-4 : tie.Need-returns-4
 returns-4 c =
     let a = start (search) .args in
-    let page = c .before .before .u32-at in
-    bad-page (a .s .now) (a .order) (a .at) (omega arith) (is-long (search)) (omega arith) (page .ensures)
+    bad-page (a .s .now) (a .order) (a .at) (omega arith) (is-long (search)) (omega arith) (c .before .before .u32-at .ensures)
     (tested (c .before .is-page .ensures) (not-true _ (c .if4 .taken)))
 
 returns-5 : tie.Need-returns-5
 returns-5 c =
     let a = start (search) .args in
-    let page = c .before .before .u32-at in
-    sizes-read (a .s .now) (a .order) (a .at) (omega arith) (is-long (search)) (omega arith) (page .ensures)
+    sizes-read (a .s .now) (a .order) (a .at) (omega arith) (is-long (search)) (omega arith) (search)
     (tested (c .before .is-page .ensures) (not-false _ (c .if4 .left)))
 
 pub sizes-at-spec : {M : Type 1} → statement M
