@@ -255,7 +255,8 @@ module _ (o : Order) (n : ℕ) where
   exact-full =
       exact-as
       (exact-then (exact-options o)
-      (λ l. exact-then exact-word (λ w. exact-then (exact-ending o n w) (λ e. exact-give (record { options = some l; ending = e })) (λ t. t .ending) (λ e t h k. ap (λ t. t .ending) k))
+      (λ l. exact-then exact-word
+      (λ w. exact-then (exact-ending o n w) (λ e. exact-give (record { options = some l; ending = e })) (λ t. t .ending) (λ e t h k. ap (λ t. t .ending) k))
       (λ t. wordOf (t .ending)) (λ w t h k. k .0 .0))
       (λ t. listIn (t .options)) (λ l t h k. ap (λ t. listIn (t .options)) (k .1 .1)))
       (λ t. full-to (t .options) (t .ending)) (λ t. full-from (t .options) (t .ending))

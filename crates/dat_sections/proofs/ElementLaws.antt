@@ -34,11 +34,12 @@ module _ {A : Type 0} (p : Reader A) (o : Order) (s : List ℕ) (at : ℕ) (h : 
 -- ---- a walk over n elements from `from` on: with `left` of them left, from `at` on
 
 pub record Passing {A : Type 0} (p : Reader A) (s : List ℕ) (n from left at : ℕ) : Type 0 where
+  pub bytes : Bytes s
   pub inside : at ≤ length s
   pub same : passAt (times left p) s at ≡ passAt (times n p) s from
 
-pub passing-start : {A : Type 0} {p : Reader A} {s : List ℕ} {n from : ℕ} → from ≤ length s → Passing p s n from n from
-passing-start h = record { inside = h; same = refl }
+pub passing-start : {A : Type 0} {p : Reader A} {s : List ℕ} {n from : ℕ} → Bytes s → from ≤ length s → Passing p s n from n from
+passing-start b h = record { bytes = b; inside = h; same = refl }
 
 times-end : {A : Type 0} (p : Reader A) (s : List ℕ) (at k : ℕ) → k ≤ 0 → at ≤ length s → accepted (tt, at) ≡ passAt (times k p) s at
 times-end p s at zero l h = rw (place-of s at h)
@@ -63,11 +64,11 @@ module _ {A : Type 0} {p : Reader A} {s : List ℕ} {n from left at : ℕ} (w : 
     pub passing-stop : {k : ℕ} → r ≡ Refused k → stepMeaning r ≡ passAt p s at → refused k ≡ passAt (times n p) s from
     passing-stop {k} e h = times-stop p s at left k l (stopped p s at e h) ∙ w .same
 
-    pub passing-on : {F : A → Type 0} {put : A → List ℕ} → Exact p F put → Bytes s → {m : ℕ} → r ≡ Next m → stepMeaning r ≡ passAt p s at
+    pub passing-on : {F : A → Type 0} {put : A → List ℕ} → Exact p F put → {m : ℕ} → r ≡ Next m → stepMeaning r ≡ passAt p s at
         → Passing p s n from (left - 1) m
-    passing-on {F} {put} x b {m} e h =
-        let g : Got p F put s at m = gone-on x b (w .inside) e h in
-        record { inside = g .inside; same = times-turn p F put s at left m l g ∙ w .same }
+    passing-on {F} {put} x {m} e h =
+        let g : Got p F put s at m = gone-on x (w .bytes) (w .inside) e h in
+        record { bytes = w .bytes; inside = g .inside; same = times-turn p F put s at left m l g ∙ w .same }
 
 -- ---- a walk to a name's NUL
 

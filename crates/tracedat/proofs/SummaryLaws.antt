@@ -122,7 +122,6 @@ bad-walk s short {w} {n} e h = rw (decode-short s short, not-read (summarySeen (
 
 -- what the walk found in a file
 pub record Found (s : List ℕ) (sm : Summary) (end : ℕ) : Type 0 where
-  pub bytes : Bytes s
   pub short : length s ≤ limit
   pub got : Got header HeaderFits encode s 0 end
   pub sums : summary (length s) (got .value) ≡ sm
@@ -131,7 +130,7 @@ pub found : {s : List ℕ} {sm : Summary} {end : ℕ} → Bytes s → length s �
     → w ≡ walked.Header sm end → walkMeaning w ≡ seenAt (summarySeen (length s)) header s 0 → Found s sm end
 found {s} {sm} {end} b short e h =
     let g = got exact-header s b 0 (omega arith) (summarySeen (length s)) sm end (at-case walkMeaning e h) in
-    record { bytes = b; short = short; got = g .0; sums = g .1 }
+    record { short = short; got = g .0; sums = g .1 }
 
 module _ {s : List ℕ} {sm : Summary} {end : ℕ} (w : Found s sm end) where
   abbrev h : Header
