@@ -13,7 +13,8 @@ use Rattle.fields.specs.Reader.{Reader, _>>=_, give, refuse, bytes, num}
 use Rattle.fields.specs.declared.Order.{Order}
 use Rattle.fields.specs.declared.Order.the-variants.{Little, Big}
 use Rattle.dat_format.specs.Pieces.{such, after, times, sized, counted, name}
-use Rattle.dat_format.specs.Header.{Opening, System, Sections, Texts, Opt, Range, Ending, latency, flyrecord, Tail, Header, magic, tracing, version, pageWord, eventWord, Word, optionsWord, latencyWord, flyWord, putWord, encode}
+use Rattle.dat_format.specs.Header.{Opening, System, Sections, Texts, Opt, Range, Ending, latency, flyrecord, Tail, Header, encode}
+use Rattle.dat_format.specs.Header.{magic, tracing, version, pageWord, eventWord, Word, optionsWord, latencyWord, flyWord, putWord}
 use Rattle.dat_format.specs.Layout.{mostCpus, ranges}
 use Rattle.dat_format.specs.Tests.{isLong, isPage, inFile, all, allApart}
 

@@ -10,7 +10,7 @@ use mathlib.Core.List.{List, [], _∷_}
 use lib.ListN.{length, drop}
 use Rattle.refusals.specs.Refusal.{fieldPastFile, notFound}
 use Rattle.fields.specs.Number.{wordAt, word-in}
-use Rattle.fields.specs.Answer.{Answer, accepted, refused}
+use Rattle.fields.specs.Answer.{accepted, refused}
 use Rattle.fields.specs.At.{num-short, num-at}
 use Rattle.fields.specs.declared.Order.{Order}
 use Rattle.fields.specs.Element.{nth}

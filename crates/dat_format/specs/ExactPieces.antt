@@ -2,7 +2,7 @@
 -- Assumes nothing.
 use mathlib.Core.Path.{_≡_, refl, ap, _∙_}
 use mathlib.Core.Bool.{Bool, true, false, cond}
-use Prim.Native.Nat.{ℕ, zero, suc, _+_}
+use Prim.Native.Nat.{ℕ, zero, suc}
 use native.Mathlib.Omega.{arith}
 use mathlib.Core.List.{List, [], _∷_, _++_, append-assoc, append-nil}
 use lib.ListN.{length}
@@ -21,12 +21,14 @@ use Rattle.dat_format.specs.Layout.{DataFits, CountFits, NameFits}
 
 -- ---- a tested value, and a fixed string
 
-pub exact-such : {A : Type 0} {p : Reader A} {F : A → Type 0} {put : A → List ℕ} (t : A → Bool) (k : ℕ) → Exact p F put → Exact (such p t k) (λ a. F a × (t a ≡ true)) put
+pub exact-such : {A : Type 0} {p : Reader A} {F : A → Type 0} {put : A → List ℕ} (t : A → Bool) (k : ℕ) → Exact p F put
+    → Exact (such p t k) (λ a. F a × (t a ≡ true)) put
 exact-such {A} {p} {F} {put} t k ep =
     exact-as
     (exact-then ep
     {putC = λ a c. []}
-    (λ a. exact-cond {F = λ c. (c ≡ a) × (t a ≡ true)} (t a) (λ e. exact-as (exact-give a) (λ c f. (f .0, refl)) (λ c f. ((f, e), refl))) (λ e. exact-refuse k _ _ (λ c f. clash (cc))))
+    (λ a. exact-cond {F = λ c. (c ≡ a) × (t a ≡ true)} (t a) (λ e. exact-as (exact-give a) (λ c f. (f .0, refl)) (λ c f. ((f, e), refl)))
+    (λ e. exact-refuse k _ _ (λ c f. clash (cc))))
     (λ c. c) (λ a c f g. g .0))
     (λ c f. ((f .0, (refl, f .1)), append-nil (put c))) (λ c f. ((f .0, f .1 .1), append-nil (put c)))
 
@@ -48,14 +50,18 @@ module _ {A : Type 0} {p : Reader A} {F : A → Type 0} {put : A → List ℕ} (
   times-back (suc n) (a ∷ l) rest f =
       rw (append-assoc (put a) (concatMap put l) rest, ep .back a (concatMap put l ++ rest) (f .1 .0), times-back n l rest (omega arith, f .1 .1))
 
+  -- b is l, n elements, and then the rest
+  abbrev TimesOf : ℕ → List ℕ → List A → List ℕ → Type 0
+  TimesOf n b l rest = ((length l ≡ n) × Each F l) × (concatMap put l ++ rest ≡ b)
+
   -- one more element, read before the others
-  cons-forth : (n : ℕ) (b mid end rest : List ℕ) (a : A) (m l : List A) → F a × (put a ++ mid ≡ b) → ((length m ≡ n) × Each F m) × (concatMap put m ++ end ≡ mid)
-      → _≡_ {A = Answer (List A × List ℕ)} (accepted (a ∷ m, end)) (accepted (l, rest)) → ((length l ≡ suc n) × Each F l) × (concatMap put l ++ rest ≡ b)
+  cons-forth : (n : ℕ) (b mid end rest : List ℕ) (a : A) (m l : List A) → F a × (put a ++ mid ≡ b) → TimesOf n mid m end
+      → _≡_ {A = Answer (List A × List ℕ)} (accepted (a ∷ m, end)) (accepted (l, rest)) → TimesOf (suc n) b l rest
   cons-forth n b mid end rest a m l fa fl e =
       let q = accepted-inj e in
       rw (← q .0, ← q .1) ((ap suc (fl .0 .0), (fa .0, fl .0 .1)), append-assoc (put a) (concatMap put m) end ∙ ap (λ t. put a ++ t) (fl .1) ∙ fa .1)
 
-  times-forth : (n : ℕ) (b : List ℕ) (l : List A) (rest : List ℕ) → Bytes b → times n p b ≡ accepted (l, rest) → ((length l ≡ n) × Each F l) × (concatMap put l ++ rest ≡ b)
+  times-forth : (n : ℕ) (b : List ℕ) (l : List A) (rest : List ℕ) → Bytes b → times n p b ≡ accepted (l, rest) → TimesOf n b l rest
   times-forth zero b l rest h e = let q = accepted-inj e in rw (← q .0, ← q .1) ((refl, tt), refl)
   times-forth (suc n) b l rest h e =
       let s = next-inv (p b) (λ r. next (times n p (r .1)) (λ m. accepted (r .0 ∷ m .0, m .1))) e in

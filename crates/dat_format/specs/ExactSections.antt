@@ -24,9 +24,11 @@ use Rattle.dat_format.specs.Pages.{long-fits, page-fits}
 
 exact-orderIn : (n : ℕ) → Exact (orderIn n) (λ o. codeOf o ≡ n) (λ o. [])
 exact-orderIn zero =
-    exact-as (exact-give Little) (elim [ Little ↦ λ h. (refl, refl) | Big ↦ λ h. absurd (omega arith) ]) (elim [ Little ↦ λ h. (refl, refl) | Big ↦ λ h. clash (cc) ])
+    exact-as (exact-give Little) (elim [ Little ↦ λ h. (refl, refl) | Big ↦ λ h. absurd (omega arith) ])
+    (elim [ Little ↦ λ h. (refl, refl) | Big ↦ λ h. clash (cc) ])
 exact-orderIn (suc zero) =
-    exact-as (exact-give Big) (elim [ Little ↦ λ h. absurd (omega arith) | Big ↦ λ h. (refl, refl) ]) (elim [ Little ↦ λ h. clash (cc) | Big ↦ λ h. (refl, refl) ])
+    exact-as (exact-give Big) (elim [ Little ↦ λ h. absurd (omega arith) | Big ↦ λ h. (refl, refl) ])
+    (elim [ Little ↦ λ h. clash (cc) | Big ↦ λ h. (refl, refl) ])
 exact-orderIn (suc (suc n)) = exact-refuse badConstant _ _ (elim [ Little ↦ λ h. omega arith | Big ↦ λ h. omega arith ])
 
 code-small : (o : Order) → codeOf o < 256 ^ 1
@@ -61,7 +63,8 @@ exact-flags : Exact flags OpeningFits putFlags
 unfolding flags
 exact-flags =
     exact-as
-    (exact-then (exact-num Little 1 fieldPastFile) (λ n. exact-then (exact-orderIn n) exact-sizes (λ h. h .order) (λ o h f e. e .1)) (λ h. codeOf (h .order)) (λ n h f e. e .0))
+    (exact-then (exact-num Little 1 fieldPastFile) (λ n. exact-then (exact-orderIn n) exact-sizes (λ h. h .order) (λ o h f e. e .1))
+    (λ h. codeOf (h .order)) (λ n h f e. e .0))
     (λ h f. ((code-small (h .order), (refl, (f, refl))), refl)) (λ h f. (f .1 .1 .0, refl))
 
 pub exact-opening : Exact opening OpeningFits putOpening

@@ -17,7 +17,8 @@ use Rattle.fields.specs.Reader.{_>>=_, give}
 use Rattle.fields.specs.Exact.{Exact, exact-give, exact-refuse, exact-bytes, exact-then, exact-as, exact-cond, exact-num}
 use Rattle.fields.specs.declared.Order.{Order}
 use Rattle.dat_format.specs.Pieces.{sized, putSized}
-use Rattle.dat_format.specs.Header.{Opt, Ending, latency, flyrecord, Tail, Word, optionsWord, latencyWord, flyWord, putWord, putOpt, putList, putOptions, putRange, putEnding, putTail}
+use Rattle.dat_format.specs.Header.{Opt, Ending, latency, flyrecord, Tail, Word, optionsWord, latencyWord, flyWord}
+use Rattle.dat_format.specs.Header.{putWord, putOpt, putList, putOptions, putRange, putEnding, putTail}
 use Rattle.dat_format.specs.Layout.{DataFits, OptFits, RangeFits, EndingFits, TailFits, ranges}
 use Rattle.dat_format.specs.Decode.{isWord, wordIn, word, optionsF, options, range, ending, tailAfter, tail}
 use Rattle.dat_format.specs.ExactPieces.{exact-such, exact-times, exact-sized}
@@ -52,7 +53,9 @@ put-in b l e = by (starts (putWord optionsWord) b) (starts (putWord latencyWord)
 pub exact-word : Exact word (λ w. Unit {0}) putWord
 unfolding word
 exact-word =
-    exact-as (exact-then (exact-such isWord badConstant (exact-bytes 10 fieldPastFile)) (λ b. exact-give (wordIn b)) putWord (λ b w f e. ap putWord e ∙ put-in b (f .0) (f .1)))
+    exact-as
+    (exact-then (exact-such isWord badConstant (exact-bytes 10 fieldPastFile)) (λ b. exact-give (wordIn b)) putWord
+    (λ b w f e. ap putWord e ∙ put-in b (f .0) (f .1)))
     (λ w f. (((word-length w, is-word w), word-in w), append-nil (putWord w))) (λ w f. (tt, append-nil (putWord w)))
 
 -- ---- options
@@ -117,7 +120,10 @@ exact-optionsF (suc f) o =
     exact-as
     (exact-then (exact-num o 2 fieldPastFile) (λ t. exact-cond (eqb t 0) (none-left o f t) (λ e. one-more o f t e (exact-optionsF f o)))
     typeOf (first-type f))
-    (elim [ [] ↦ λ h. ((omega arith, refl), append-nil _) | x ∷ l ↦ λ h. ((h .1 .0 .1, (refl, h .1 .0 .0, h .1 .0 .2, omega arith, h .1 .1)), list-rest o x l) ])
+    (elim [
+      | [] ↦ λ h. ((omega arith, refl), append-nil _)
+      | x ∷ l ↦ λ h. ((h .1 .0 .1, (refl, h .1 .0 .0, h .1 .0 .2, omega arith, h .1 .1)), list-rest o x l)
+    ])
     (elim [ [] ↦ λ h. ((omega arith, tt), append-nil _) | x ∷ l ↦ λ h. ((omega arith, ((h .1 .1, h .0, h .1 .2), h .1 .4)), list-rest o x l) ])
 
 option-length : (o : Order) (x : Opt) → 0 < length (putOpt o x)
@@ -224,7 +230,8 @@ module _ (o : Order) (n : ℕ) (w : Word) (ne : w ≡ optionsWord → ⊥) where
 module _ (o : Order) (n : ℕ) where
   abbrev Full : Option (List Opt) → Ending → Type 0
   Full x e =
-      Each OptFits (listIn x) × (Unit {0} × (((wordOf e ≡ wordOf e) × EndingFits n e) × (_≡_ {A = Tail} (record { options = x; ending = e }) (record { options = some (listIn x); ending = e }))))
+      let same = _≡_ {A = Tail} (record { options = x; ending = e }) (record { options = some (listIn x); ending = e }) in
+      Each OptFits (listIn x) × (Unit {0} × (((wordOf e ≡ wordOf e) × EndingFits n e) × same))
 
   abbrev write : Option (List Opt) → Ending → List ℕ
   write x e = putList o (listIn x) ++ (putWord (wordOf e) ++ (restOf o e ++ []))
@@ -247,8 +254,9 @@ module _ (o : Order) (n : ℕ) where
   unfolding tailAfter listIn
   exact-full =
       exact-as
-      (exact-then (exact-options o) (λ l. exact-then exact-word (λ w. exact-then (exact-ending o n w) (λ e. exact-give (record { options = some l; ending = e }))
-      (λ t. t .ending) (λ e t h k. ap (λ t. t .ending) k))
+      (exact-then (exact-options o)
+      (λ l. exact-then exact-word
+      (λ w. exact-then (exact-ending o n w) (λ e. exact-give (record { options = some l; ending = e })) (λ t. t .ending) (λ e t h k. ap (λ t. t .ending) k))
       (λ t. wordOf (t .ending)) (λ w t h k. k .0 .0))
       (λ t. listIn (t .options)) (λ l t h k. ap (λ t. listIn (t .options)) (k .1 .1)))
       (λ t. full-to (t .options) (t .ending)) (λ t. full-from (t .options) (t .ending))

@@ -7,7 +7,7 @@ use Prim.Native.Nat.{ℕ, zero, suc, _<_}
 use mathlib.Core.List.{List, [], _∷_, _++_}
 use lib.ListN.{length}
 use lib.Dec.{leb, eqb}
-use Rattle.refusals.specs.Refusal.{limit, tooLong, notFound, fieldPastFile, badConstant, badRange, rangesOverlap}
+use Rattle.refusals.specs.Refusal.{limit, tooLong, fieldPastFile, badConstant, badRange, rangesOverlap}
 use Rattle.fields.specs.Word.{starts}
 use Rattle.fields.specs.Answer.{refused, next}
 use Rattle.fields.specs.Reader.{Reader, num}

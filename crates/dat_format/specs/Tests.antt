@@ -1,5 +1,6 @@
 -- The reader's tests of a header's numbers and CPU ranges. That each lets through just what fits the layout: Pages.antt, RangeLaws.antt.
--- Assumes nothing: these are definitions.
+-- Assumes nothing: these are definitions, and one law.
+use mathlib.Core.Path.{_≡_, sym, _∙_}
 use mathlib.Core.Bool.{Bool, true, _&&_, _||_}
 use Prim.Native.Nat.{ℕ, _+_, _%_}
 use mathlib.Core.List.{List, [], _∷_}
@@ -30,3 +31,7 @@ all p (x ∷ xs) = p x && all p xs
 abbrev pub allApart : List Range → Bool
 allApart [] = true
 allApart (r ∷ rs) = all (apart r) rs && allApart rs
+
+-- a test that was made says what is tested
+pub tested : {r a t : Bool} → r ≡ a → r ≡ t → a ≡ t
+tested e f = sym e ∙ f

@@ -1,5 +1,1 @@
 pub mod PieceLaws
-pub mod OpeningLaws
-pub mod SectionLaws
-pub mod TailLaws
-pub mod WalkLaws

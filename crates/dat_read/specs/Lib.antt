@@ -1,3 +1,3 @@
 pub mod Steps
 pub mod Summary
-pub mod Parts
+pub mod Read

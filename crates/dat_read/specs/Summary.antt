@@ -7,7 +7,8 @@ use lib.ListN.{length}
 use Rattle.fields.specs.Lists.{concatMap}
 use Rattle.fields.specs.declared.Order.{Order}
 use Rattle.dat_format.specs.Pieces.{putSized}
-use Rattle.dat_format.specs.Header.{Opening, Sections, Texts, Opt, Ending, latency, flyrecord, Tail, Header, putSystem, putList, putOpening, putSections, putTexts, encode}
+use Rattle.dat_format.specs.Header.{Opening, Sections, Texts, Opt, Ending, latency, flyrecord, Tail, Header}
+use Rattle.dat_format.specs.Header.{putSystem, putList, putOpening, putSections, putTexts, encode}
 use Rattle.dat_read.specs.declared.summary.Part.{Part}
 use Rattle.dat_read.specs.declared.summary.Flags.{Flags}
 use Rattle.dat_read.specs.declared.summary.SectionParts.{SectionParts}
@@ -15,7 +16,7 @@ use Rattle.dat_read.specs.declared.summary.TextParts.{TextParts}
 use Rattle.dat_read.specs.declared.summary.EndingKind.{EndingKind}
 use Rattle.dat_read.specs.declared.summary.EndingKind.the-variants.{Latency, Flyrecord}
 use Rattle.dat_read.specs.declared.summary.Summary.{Summary}
-use Rattle.dat_read.specs.declared.tail.TailParts.{TailParts}
+use Rattle.dat_read.specs.declared.summary.TailParts.{TailParts}
 
 abbrev pub part : ℕ → ℕ → Part
 part at n = record { place = at; size = n }

@@ -4,20 +4,19 @@ ghost use Prim.Native.Nat.{_≤_};
 ghost use lib.ListN.{length};
 ghost use Rattle.fields.specs.Number.{wordAt};
 ghost use Rattle.fields.specs.Reader.{passAt};
-ghost use Rattle.dat_format.specs.Pieces.{fixed, after, sized};
+ghost use Rattle.dat_format.specs.Pieces.{fixed, sized};
 ghost use Rattle.dat_read.specs.Steps.{stepMeaning, widthOf};
 use fields::Order;
 use refusals::BAD_CONSTANT;
 use refusals::FIELD_PAST_FILE;
 
 // The place after what a step read, or a refusal.
-pub(crate) enum Step {
+pub enum Step {
     Next(usize),
     Refused(u8),
 }
 
-// A fixed string at `at`.
-pub(crate) fn fixed_at<'a>(s: &'a [u8], word: &'a [u8], at: usize) -> Step
+fn fixed_in<'a>(s: &'a [u8], word: &'a [u8], at: usize) -> Step
     requires { ⌜ at ≤ length (now s) ⌝ }
     ensures { λ r. ⌜ stepMeaning r ≡ passAt (fixed (now (word .entry))) (now (s .entry)) at ⌝ }
 {
@@ -31,8 +30,18 @@ pub(crate) fn fixed_at<'a>(s: &'a [u8], word: &'a [u8], at: usize) -> Step
     Step::Refused(BAD_CONSTANT)
 }
 
+// A fixed string at `at`; behind the file's end stands what stands at its end.
+pub fn fixed_at<'a>(s: &'a [u8], word: &'a [u8], at: usize) -> Step
+    ensures { λ r. ⌜ stepMeaning r ≡ passAt (fixed (now (word .entry))) (now (s .entry)) at ⌝ }
+{
+    if s.len() < at {
+        return fixed_in(s, word, s.len());
+    }
+    fixed_in(s, word, at)
+}
+
 // How many bytes a size field has.
-pub(crate) enum Width {
+pub enum Width {
     Four,
     Eight,
 }
@@ -56,10 +65,12 @@ fn size_at(s: &[u8], order: Order, width: Width, at: usize) -> u64
 }
 
 // A size at `at`, and that many bytes.
-pub(crate) fn sized_at(s: &[u8], order: Order, width: Width, at: usize) -> Step
-    requires { ⌜ at ≤ length (now s) ⌝ }
+pub fn sized_at(s: &[u8], order: Order, width: Width, at: usize) -> Step
     ensures { λ r. ⌜ stepMeaning r ≡ passAt (sized order (widthOf width)) (now (s .entry)) at ⌝ }
 {
+    if s.len() < at {
+        return Step::Refused(FIELD_PAST_FILE);
+    }
     let w = bytes_of(width);
     if s.len() - at < w {
         return Step::Refused(FIELD_PAST_FILE);
@@ -70,15 +81,4 @@ pub(crate) fn sized_at(s: &[u8], order: Order, width: Width, at: usize) -> Step
         return Step::Refused(FIELD_PAST_FILE);
     }
     Step::Next(body + n)
-}
-
-// A fixed string at `at`, an 8-byte size, and that many bytes.
-pub(crate) fn piece_at<'a>(s: &'a [u8], order: Order, word: &'a [u8], at: usize) -> Step
-    requires { ⌜ at ≤ length (now s) ⌝ }
-    ensures { λ r. ⌜ stepMeaning r ≡ passAt (after (now (word .entry)) (sized order 8)) (now (s .entry)) at ⌝ }
-{
-    match fixed_at(s, word, at) {
-        Step::Refused(n) => Step::Refused(n),
-        Step::Next(next) => sized_at(s, order, Width::Eight, next),
-    }
 }

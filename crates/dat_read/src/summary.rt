@@ -1,7 +1,6 @@
 // What a header's summary holds: flags, counts, and where each section stands.
 ghost use mathlib.Core.Path.{_≡_};
-ghost use Prim.Native.Nat.{_+_, _≤_};
-ghost use Rattle.dat_read.specs.Summary.{partTo, bodyOf};
+ghost use Rattle.dat_read.specs.Summary.{partTo};
 use fields::Order;
 
 // A part of the file.
@@ -41,6 +40,13 @@ pub enum EndingKind {
     Flyrecord,
 }
 
+// The options, the kind of the ending, and where its entries or text start.
+pub struct TailParts {
+    pub options: Part,
+    pub ending: EndingKind,
+    pub place: usize,
+}
+
 // `options` runs from the first type through the closing 0, and is 0 and 0 where there are none; `body` is the CPU entries, or
 // the text of a latency file.
 pub struct Summary {
@@ -52,24 +58,15 @@ pub struct Summary {
     pub body: Part,
 }
 
-// From `skip` bytes after `at` up to `next`.
-pub(crate) fn span(at: usize, skip: usize, next: usize) -> Part
-    requires { ⌜ at + skip ≤ next ⌝ }
-    ensures { λ r. ⌜ r ≡ partTo (at + skip) next ⌝ }
+// The bytes from `place` up to `next`; none where `next` lies before.
+pub fn span(place: usize, next: usize) -> Part
+    ensures { λ r. ⌜ r ≡ partTo place next ⌝ }
 {
-    Part {
-        place: at + skip,
-        size: next - (at + skip),
+    if next < place {
+        return Part { place, size: 0 };
     }
-}
-
-// The entries from `place` to the header's end, or the text from there to the file's end.
-pub(crate) fn body_of(ending: EndingKind, place: usize, end: usize, total: usize) -> Part
-    requires { ⌜ (place ≤ end) × (end ≤ total) ⌝ }
-    ensures { λ r. ⌜ r ≡ bodyOf ending place end total ⌝ }
-{
-    match ending {
-        EndingKind::Latency => span(end, 0, total),
-        EndingKind::Flyrecord => span(place, 0, end),
+    Part {
+        place,
+        size: next - place,
     }
 }

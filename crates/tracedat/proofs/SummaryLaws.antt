@@ -12,8 +12,10 @@ use Rattle.fields.specs.Lists.{clash}
 use Rattle.fields.specs.Number.{Bytes, wordAt}
 use Rattle.fields.specs.Answer.{Answer, accepted, refused, accepted-one, next, next-inv, refused-inv}
 use Rattle.fields.specs.Reader.{seenAt}
+use Rattle.fields.specs.Given.{at-case}
 use Rattle.fields.specs.Got.{Got, not-read, got}
 use Rattle.fields.specs.Element.{nth}
+use Rattle.fields.specs.declared.Order.{Order}
 use Rattle.dat_format.specs.Header.{Range, Ending, latency, flyrecord, Header, encode}
 use Rattle.dat_format.specs.Layout.{HeaderFits, ranges}
 use Rattle.dat_format.specs.Tests.{inFile, all, allApart}
@@ -21,13 +23,19 @@ use Rattle.dat_format.specs.Decode.{header, checked, decode}
 use Rattle.dat_format.specs.Entries.{entryAt, entries, nth-entry, no-entry}
 use Rattle.dat_format.specs.Exactness.{exact-header, exactness}
 use Rattle.dat_read.specs.Summary.{kindOf, summary, summarySeen}
-use Rattle.dat_read.specs.Parts.{entries-are}
 use Rattle.dat_read.specs.declared.summary.EndingKind.the-variants.{Latency, Flyrecord}
 use Rattle.dat_read.specs.declared.summary.Summary.{Summary}
-use Rattle.tracedat.specs.Ranges.{rangeOf, verdict}
-use Rattle.tracedat.specs.Questions.{summed, cpuRange}
-use Rattle.tracedat.specs.declared.ranges.Verdict.{Verdict}
-use Rattle.tracedat.specs.declared.ranges.Verdict.the-variants.{Sound, Misplaced, Overlap}
+use Rattle.dat_walk.specs.Steps.{walkMeaning}
+use Rattle.dat_walk.specs.Parts.{entries-are}
+use Rattle.dat_walk.specs.declared.Walked as code
+use Rattle.dat_walk.specs.declared.Walked.the-variants as walked
+use Rattle.dat_ranges.specs.Ranges.{rangeOf, verdict, judged, judged-there}
+use Rattle.dat_ranges.specs.declared.Test.the-variants.{InFile}
+use Rattle.dat_ranges.specs.declared.Verdict.{Verdict}
+use Rattle.dat_ranges.specs.declared.Verdict.the-variants.{Sound, Misplaced, Overlap}
+use Rattle.tracedat.specs.Questions.{summed, summaryMeaning, cpuRange}
+use Rattle.tracedat.specs.declared.SummaryAnswer.{SummaryAnswer}
+use Rattle.tracedat.specs.declared.SummaryAnswer.the-variants as answer
 
 kind-latency : (e : Ending) → kindOf e ≡ Latency → e ≡ latency
 kind-latency latency k = refl
@@ -46,42 +54,37 @@ pub record Summarised (s : List ℕ) (sm : Summary) : Type 0 where
   pub fits : HeaderFits whole
   pub sums : summary (length s) whole ≡ sm
 
-module _ (s : List ℕ) (sm : Summary) (r : Summarised s sm) where
-  ending-is : kindOf (r .whole .tail .ending) ≡ sm .ending
+module _ {s : List ℕ} {sm : Summary} (r : Summarised s sm) where
+  abbrev ending : Ending
+  ending = r .whole .tail .ending
+
+  ending-is : kindOf ending ≡ sm .ending
   unfolding summary
   ending-is = ap (λ t. t .ending) (r .sums)
 
-  is-text : sm .ending ≡ Latency → r .whole .tail .ending ≡ latency
-  is-text k = kind-latency (r .whole .tail .ending) (ending-is ∙ k)
+  is-text : sm .ending ≡ Latency → ending ≡ latency
+  is-text k = kind-latency ending (ending-is ∙ k)
 
   page-same : r .whole .opening .page ≡ sm .flags .page
   unfolding summary
   page-same = ap (λ t. t .flags .page) (r .sums)
 
-  pub page-some : 0 < sm .flags .page
+  page-some : 1 ≤ sm .flags .page
   page-some = omega (arith, page-same, r .fits .0 .1 .0)
 
-  module _ (k : sm .ending ≡ Flyrecord) where
-    is-fly : (rs : List Range) × (r .whole .tail .ending ≡ flyrecord rs)
-    is-fly = kind-fly (r .whole .tail .ending) (ending-is ∙ k)
+  -- the entries, where the summary says
+  abbrev Stored : Summary → Type 0
+  Stored t = (t .body .place + 16 * t .texts .cpus ≤ length s) × (entries (t .flags .order) s (t .texts .cpus) (t .body .place) ≡ ranges ending)
 
-    -- the entries, where the summary says
-    abbrev stored : List Range
-    stored = entries (sm .flags .order) s (sm .texts .cpus) (sm .body .place)
+  stored-are : sm .ending ≡ Flyrecord → Stored sm
+  unfolding summary
+  stored-are k =
+      let f = kind-fly ending (ending-is ∙ k) in
+      let q = entries-are s (r .rest) (r .whole) (r .laid) (r .fits) (f .0) (f .1) in
+      subst Stored (r .sums) (q .0, q .1 ∙ sym (ap ranges (f .1)))
 
-    stored-are : (sm .body .place + 16 * sm .texts .cpus ≤ length s) × (stored ≡ ranges (r .whole .tail .ending))
-    unfolding summary
-    stored-are =
-        let f = is-fly in
-        let q = entries-are s (r .rest) (r .whole) (r .laid) (r .fits) (f .0) (f .1) in
-        subst (λ t. (t .body .place + 16 * t .texts .cpus ≤ length s) × (entries (t .flags .order) s (t .texts .cpus) (t .body .place) ≡ ranges (r .whole .tail .ending))) (r .sums)
-        (q .0, q .1 ∙ sym (ap ranges (f .1)))
-
-    pub room : sm .body .place + 16 * sm .texts .cpus ≤ length s
-    room = stored-are .0
-
-    stored-ranges : stored ≡ ranges (r .whole .tail .ending)
-    stored-ranges = stored-are .1
+  pub room : sm .ending ≡ Flyrecord → sm .body .place + 16 * sm .texts .cpus ≤ length s
+  room k = stored-are k .0
 
 -- ---- the summary
 
@@ -95,118 +98,138 @@ answerOf Sound h = accepted h
 answerOf Misplaced h = refused badRange
 answerOf Overlap h = refused rangesOverlap
 
-checked-is : (total : ℕ) (h : Header) → checked total h ≡ answerOf (verdict (inFile (h .opening .page) (length (encode h)) total) (ranges (h .tail .ending))) h
+checked-is : (total : ℕ) (h : Header)
+    → checked total h ≡ answerOf (verdict (inFile (h .opening .page) (length (encode h)) total) (ranges (h .tail .ending))) h
 unfolding checked answerOf
-checked-is total h = by (all (inFile (h .opening .page) (length (encode h)) total) (ranges (h .tail .ending))) (allApart (ranges (h .tail .ending)))
+checked-is total h =
+    let rs = ranges (h .tail .ending) in
+    by (all (inFile (h .opening .page) (length (encode h)) total) rs) (allApart rs)
   where
     by : (p q : Bool) → cond p (cond q (accepted h) (refused rangesOverlap)) (refused badRange) ≡ answerOf (cond p (cond q Sound Overlap) Misplaced) h
     by true true = refl
     by true false = refl
     by false q = refl
 
-module _ (s : List ℕ) (hb : Bytes s) (short : length s ≤ limit) where
-  abbrev Answers : Answer Summary → Type 0
-  Answers x = x ≡ summed s
+decode-short : (s : List ℕ) → length s ≤ limit → decode s ≡ next (header s) (λ r. checked (length s) (r .0))
+unfolding decode
+decode-short s short = rw (le-leb (length s) limit short)
 
-  abbrev Walked : Answer (Summary × ℕ) → Type 0
-  Walked x = x ≡ seenAt (summarySeen (length s)) header s 0
+-- a walk that was refused
+pub bad-walk : (s : List ℕ) → length s ≤ limit → {w : code.Walked} {n : ℕ}
+    → w ≡ walked.Refused n → walkMeaning w ≡ seenAt (summarySeen (length s)) header s 0 → refused n ≡ summed s
+unfolding summed
+bad-walk s short {w} {n} e h = rw (decode-short s short, not-read (summarySeen (length s)) header s 0 n (at-case walkMeaning e h))
 
-  decode-short : decode s ≡ next (header s) (λ r. checked (length s) (r .0))
-  unfolding decode
-  decode-short = rw (le-leb (length s) limit short)
+-- what the walk found in a file
+pub record Found (s : List ℕ) (sm : Summary) (end : ℕ) : Type 0 where
+  pub short : length s ≤ limit
+  pub got : Got header HeaderFits encode s 0 end
+  pub sums : summary (length s) (got .value) ≡ sm
 
-  pub bad-walk : (n : ℕ) → Walked (refused n) → Answers (refused n)
+pub found : {s : List ℕ} {sm : Summary} {end : ℕ} → Bytes s → length s ≤ limit → {w : code.Walked}
+    → w ≡ walked.Header sm end → walkMeaning w ≡ seenAt (summarySeen (length s)) header s 0 → Found s sm end
+found {s} {sm} {end} b short e h =
+    let g = got exact-header s b 0 (omega arith) (summarySeen (length s)) sm end (at-case walkMeaning e h) in
+    record { short = short; got = g .0; sums = g .1 }
+
+module _ {s : List ℕ} {sm : Summary} {end : ℕ} (w : Found s sm end) where
+  abbrev h : Header
+  h = w .got .value
+
+  abbrev summarised : Summarised s sm
+  summarised = record { whole = h; rest = drop end s; laid = w .got .laid; fits = w .got .fits; sums = w .sums }
+
+  end-is : length (encode h) ≡ end
+  end-is = omega (arith, w .got .place)
+
+  -- what the header's ranges are judged to be
+  abbrev checks : Verdict
+  checks = verdict (inFile (h .opening .page) (length (encode h)) (length s)) (ranges (h .tail .ending))
+
+  abbrev summedAs : Answer Header → Answer Summary
+  summedAs x = next x (λ h. accepted (summary (length s) h))
+
+  answers : (v : Verdict) → v ≡ checks → summedAs (answerOf v h) ≡ summed s
   unfolding summed
-  bad-walk n e = rw (decode-short, not-read (summarySeen (length s)) header s 0 n e)
+  answers v e =
+      let d : decode s ≡ answerOf checks h =
+      decode-short s (w .short) ∙ ap (λ x. next x (λ r. checked (length s) (r .0))) (w .got .reads) ∙ checked-is (length s) h in
+      ap (λ v. summedAs (answerOf v h)) e ∙ ap summedAs (sym d)
 
-  module _ (sm : Summary) (end : ℕ) (w : Walked (accepted (sm, end))) where
-    read : (g : Got header HeaderFits encode s 0 end) × (summary (length s) (g .value) ≡ sm)
-    read = got exact-header s hb 0 (omega arith) (summarySeen (length s)) sm end w
+  sound : Sound ≡ checks → accepted sm ≡ summed s
+  unfolding answerOf
+  sound e = ap accepted (sym (w .sums)) ∙ answers Sound e
 
-    pub summarised : Summarised s sm
-    summarised = record { whole = read .0 .value; rest = drop end s; laid = read .0 .laid; fits = read .0 .fits; sums = read .1 }
+  pub accept-text : sm .ending ≡ Latency → accepted sm ≡ summed s
+  accept-text k = sound (sym (ap (λ e. verdict (inFile (h .opening .page) (length (encode h)) (length s)) (ranges e)) (is-text summarised k)))
 
-    abbrev h : Header
-    h = read .0 .value
+  module _ (k : sm .ending ≡ Flyrecord) where
+    abbrev Judged : Verdict → Type 0
+    Judged v = v ≡ judged (InFile (sm .flags .page) end (length s)) (sm .flags .order) s (sm .texts .cpus) (sm .body .place)
 
-    end-is : length (encode h) ≡ end
-    end-is = omega (arith, read .0 .place)
+    checks-is : {v : Verdict} → Judged v → v ≡ checks
+    checks-is e =
+        let test = InFile (sm .flags .page) end (length s) in
+        let possible = le-leb 1 (sm .flags .page) (page-some summarised) in
+        e ∙ judged-there test (sm .flags .order) s (sm .texts .cpus) (sm .body .place) possible (room summarised k)
+        ∙ ap (verdict (inFile (sm .flags .page) end (length s))) (stored-are summarised k .1)
+        ∙ ap₂ (λ p n. verdict (inFile p n (length s)) (ranges (h .tail .ending))) (sym (page-same summarised)) (sym end-is)
 
-    decode-is : decode s ≡ checked (length s) h
-    decode-is = decode-short ∙ rw (read .0 .reads)
-
-    answer-is : (x : Answer Header) → checked (length s) h ≡ x → next x (λ h. accepted (summary (length s) h)) ≡ summed s
-    unfolding summed
-    answer-is x e = ap (λ x. next x (λ h. accepted (summary (length s) h))) (sym e ∙ sym decode-is)
-
-    judged : (v : Verdict) → v ≡ verdict (inFile (h .opening .page) (length (encode h)) (length s)) (ranges (h .tail .ending))
-        → next (answerOf v h) (λ h. accepted (summary (length s) h)) ≡ summed s
-    judged v e = answer-is (answerOf v h) (checked-is (length s) h ∙ ap (λ v. answerOf v h) (sym e))
-
-    sound : verdict (inFile (h .opening .page) (length (encode h)) (length s)) (ranges (h .tail .ending)) ≡ Sound → Answers (accepted sm)
-    unfolding answerOf
-    sound e = ap accepted (sym (read .1)) ∙ judged Sound (sym e)
-
-    pub accept-text : sm .ending ≡ Latency → Answers (accepted sm)
-    unfolding summarised
-    accept-text k = sound (ap (λ e. verdict (inFile (h .opening .page) (length (encode h)) (length s)) (ranges e)) (is-text s sm summarised k))
-
-    module _ (k : sm .ending ≡ Flyrecord) where
-      abbrev Judged : Verdict → Type 0
-      Judged v = v ≡ verdict (inFile (sm .flags .page) end (length s)) (stored s sm summarised k)
-
-      judged-is : (v : Verdict) → Judged v → v ≡ verdict (inFile (h .opening .page) (length (encode h)) (length s)) (ranges (h .tail .ending))
-      unfolding summarised
-      judged-is v e =
-          e ∙ ap (λ p. verdict (inFile p end (length s)) (stored s sm summarised k)) (sym (page-same s sm summarised))
-          ∙ ap (λ n. verdict (inFile (h .opening .page) n (length s)) (stored s sm summarised k)) (sym end-is)
-          ∙ ap (verdict (inFile (h .opening .page) (length (encode h)) (length s))) (stored-ranges s sm summarised k)
-
-      pub bad-range : Judged Misplaced → Answers (refused badRange)
+    module _ {v : Verdict} where
+      pub bad-range : v ≡ Misplaced → Judged v → refused badRange ≡ summed s
       unfolding answerOf
-      bad-range e = judged Misplaced (judged-is Misplaced e)
+      bad-range f e = answers Misplaced (sym f ∙ checks-is e)
 
-      pub overlap : Judged Overlap → Answers (refused rangesOverlap)
+      pub overlap : v ≡ Overlap → Judged v → refused rangesOverlap ≡ summed s
       unfolding answerOf
-      overlap e = judged Overlap (judged-is Overlap e)
+      overlap f e = answers Overlap (sym f ∙ checks-is e)
 
-      pub accept-entries : Judged Sound → Answers (accepted sm)
-      accept-entries e = sound (sym (judged-is Sound e))
+      pub accept-entries : v ≡ Sound → Judged v → accepted sm ≡ summed s
+      accept-entries f e = sound (sym f ∙ checks-is e)
 
 -- ---- a CPU's range
 
-pub no-header : (s : List ℕ) (i n : ℕ) → refused n ≡ summed s → refused n ≡ cpuRange i s
+pub no-header : (s : List ℕ) (i : ℕ) {r : SummaryAnswer} {n : ℕ} → r ≡ answer.Refused n → summaryMeaning r ≡ summed s → refused n ≡ cpuRange i s
 unfolding summed cpuRange
-no-header s i n e = rw (refused-inv n (decode s) (λ h. summary (length s) h) e)
+no-header s i {r} {n} e h = rw (refused-inv n (decode s) (λ h. summary (length s) h) (at-case summaryMeaning e h))
 
-module _ (s : List ℕ) (hb : Bytes s) (sm : Summary) (e : accepted sm ≡ summed s) where
-  accepts : (h : Header) × (decode s ≡ accepted h) × (accepted (summary (length s) h) ≡ accepted sm)
-  unfolding summed
-  accepts = next-inv (decode s) (λ h. accepted (summary (length s) h)) (sym e)
+-- a file whose summary is sm
+pub record Accepts (s : List ℕ) (sm : Summary) : Type 0 where
+  pub summarised : Summarised s sm
+  pub decodes : decode s ≡ accepted (summarised .whole)
 
-  pub known : Summarised s sm
-  unfolding accepts
-  known =
-      let o = (exactness s (accepts .0) hb) .0 (accepts .1) in
-      record { whole = accepts .0; rest = o .1 .0; laid = o .1 .1; fits = o .0 .fits; sums = accepted-one (accepts .2) }
+pub accepts : {s : List ℕ} {sm : Summary} → Bytes s → {r : SummaryAnswer} → r ≡ answer.Accepted sm → summaryMeaning r ≡ summed s → Accepts s sm
+unfolding summed
+accepts {s} {sm} b e h =
+    let q = next-inv (decode s) (λ h. accepted (summary (length s) h)) (sym (at-case summaryMeaning e h)) in
+    let o = (exactness s (q .0) b) .0 (q .1) in
+    record {
+      summarised = record { whole = q .0; rest = o .1 .0; laid = o .1 .1; fits = o .0 .fits; sums = accepted-one (q .2) };
+      decodes = q .1;
+    }
 
-  module _ (i : ℕ) where
-    range-is : (x : Answer Range) → nth (ranges (known .whole .tail .ending)) i ≡ x → x ≡ cpuRange i s
-    unfolding cpuRange known
-    range-is x f = sym f ∙ sym (ap (λ y. next y (λ h. nth (ranges (h .tail .ending)) i)) (accepts .1))
+module _ {s : List ℕ} {sm : Summary} (w : Accepts s sm) (i : ℕ) where
+  range-is : (x : Answer Range) → nth (ranges (w .summarised .whole .tail .ending)) i ≡ x → x ≡ cpuRange i s
+  unfolding cpuRange
+  range-is x f = sym f ∙ sym (ap (λ y. next y (λ h. nth (ranges (h .tail .ending)) i)) (w .decodes))
 
-    pub none-in-text : sm .ending ≡ Latency → refused notFound ≡ cpuRange i s
-    none-in-text k = range-is (refused notFound) (ap (λ e. nth (ranges e) i) (is-text s sm known k))
+  pub none-in-text : sm .ending ≡ Latency → refused notFound ≡ cpuRange i s
+  none-in-text k = range-is (refused notFound) (ap (λ e. nth (ranges e) i) (is-text (w .summarised) k))
 
-    module _ (k : sm .ending ≡ Flyrecord) where
-      listed : (x : Answer Range) → nth (stored s sm known k) i ≡ x → x ≡ cpuRange i s
-      listed x f = range-is x (ap (λ l. nth l i) (sym (stored-ranges s sm known k)) ∙ f)
+  module _ (k : sm .ending ≡ Flyrecord) where
+    abbrev order : Order
+    order = sm .flags .order
 
-      pub no-cpu : sm .texts .cpus ≤ i → refused notFound ≡ cpuRange i s
-      no-cpu l = listed (refused notFound) (no-entry (sm .flags .order) s (sm .texts .cpus) i (sm .body .place) l)
+    abbrev place : ℕ
+    place = sm .body .place + 16 * i
 
-      pub the-range : i < sm .texts .cpus → (a n : ℕ) → a ≡ wordAt (sm .flags .order) 8 s (sm .body .place + 16 * i) → n ≡ wordAt (sm .flags .order) 8 s (sm .body .place + 16 * i + 8)
-          → accepted (rangeOf a n) ≡ cpuRange i s
-      the-range l a n ea en =
-          ap₂ (λ a n. accepted (rangeOf a n)) ea en
-          ∙ listed (accepted (entryAt (sm .flags .order) s (sm .body .place + 16 * i))) (nth-entry (sm .flags .order) s (sm .texts .cpus) i (sm .body .place) l)
+    listed : (x : Answer Range) → nth (entries order s (sm .texts .cpus) (sm .body .place)) i ≡ x → x ≡ cpuRange i s
+    listed x f = range-is x (ap (λ l. nth l i) (sym (stored-are (w .summarised) k .1)) ∙ f)
+
+    pub no-cpu : sm .texts .cpus ≤ i → refused notFound ≡ cpuRange i s
+    no-cpu l = listed (refused notFound) (no-entry order s (sm .texts .cpus) i (sm .body .place) l)
+
+    pub the-range : i < sm .texts .cpus → {a n : ℕ} → a ≡ wordAt order 8 s place → n ≡ wordAt order 8 s (place + 8) → accepted (rangeOf a n) ≡ cpuRange i s
+    the-range l ea en =
+        ap₂ (λ a n. accepted (rangeOf a n)) ea en
+        ∙ listed (accepted (entryAt order s place)) (nth-entry order s (sm .texts .cpus) i (sm .body .place) l)

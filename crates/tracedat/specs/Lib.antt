@@ -1,4 +1,3 @@
-pub mod Ranges
 pub mod Questions
 pub mod Numbers
 pub mod Accepted

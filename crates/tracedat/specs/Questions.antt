@@ -10,7 +10,7 @@ use Rattle.dat_format.specs.Layout.{ranges}
 use Rattle.dat_format.specs.Decode.{decode}
 use Rattle.dat_read.specs.Summary as parts
 use Rattle.dat_read.specs.declared.summary.Summary.{Summary}
-use Rattle.tracedat.specs.Ranges.{rangeOf}
+use Rattle.dat_ranges.specs.Ranges.{rangeOf}
 use Rattle.tracedat.specs.declared.SummaryAnswer.{SummaryAnswer}
 use Rattle.tracedat.specs.declared.SummaryAnswer.the-variants as summaryanswer
 use Rattle.tracedat.specs.declared.RangeAnswer.{RangeAnswer}

@@ -1,13 +1,11 @@
 // trace.dat, version 6: the summary of a file's header, and where a CPU's data stands.
-mod ranges;
-
 ghost use mathlib.Core.Path.{_≡_};
 ghost use Rattle.tracedat.specs.Questions.{summaryMeaning, summed, rangeMeaning, cpuRange};
-use dat_read::Walked;
+use dat_ranges::Test;
+use dat_ranges::Verdict;
 use dat_read::summary::EndingKind;
 use dat_read::summary::Summary;
-use ranges::Test;
-use ranges::Verdict;
+use dat_walk::Walked;
 use refusals::BAD_RANGE;
 use refusals::LIMIT;
 use refusals::NOT_FOUND;
@@ -26,7 +24,7 @@ pub fn summary(file: &[u8]) -> SummaryAnswer
     if LIMIT < file.len() {
         return SummaryAnswer::Refused(TOO_LONG);
     }
-    match dat_read::walk(file) {
+    match dat_walk::walk(file) {
         Walked::Refused(n) => SummaryAnswer::Refused(n),
         Walked::Header { summary, end } => {
             let ending = summary.ending;
@@ -42,7 +40,7 @@ pub fn summary(file: &[u8]) -> SummaryAnswer
                         end: end as u64,
                         total: file.len() as u64,
                     };
-                    match ranges::judge(file, order, test, n, place) {
+                    match dat_ranges::judge(file, order, test, n, place) {
                         Verdict::Misplaced => SummaryAnswer::Refused(BAD_RANGE),
                         Verdict::Overlap => SummaryAnswer::Refused(RANGES_OVERLAP),
                         Verdict::Sound => SummaryAnswer::Accepted(summary),

@@ -1,6 +1,7 @@
 -- `dat_read::pieces::fixed_at` meets its contract. Assumes nothing.
-use mathlib.Core.Path.{sym, _∙_}
-use Rattle.dat_read.proofs.PieceLaws.{fixed-short, fixed-here, fixed-other}
+use mathlib.Core.Path.{_∙_}
+use Rattle.dat_format.specs.Pieces.{fixed}
+use Rattle.dat_read.proofs.PieceLaws.{from-end}
 use borrow.Author.Needs.{needs}
 use native.Mathlib.Omega.{arith}
 use Rattle.dat_read.proofs.pieces.fixed_at.Statement.{statement}
@@ -9,23 +10,7 @@ use Rattle.dat_read.proofs.pieces.fixed_at.Tie as tie
 returns : tie.Need-returns
 returns c =
     let start : tie.Start = search in
-    let a = start .args in
-    fixed-short (a .s .now) (a .at) (omega arith) (a .word .now) (omega arith)
-
-returns-2 : tie.Need-returns-2
-returns-2 c =
-    let start : tie.Start = search in
-    let a = start .args in
-    fixed-here (a .s .now) (a .at) (omega arith) (a .word .now) (omega arith) (sym (c .before .begins .ensures) ∙ c .if2 .taken)
-
-returns-3 : tie.Need-returns-3
-returns-3 c =
-    let start : tie.Start = search in
-    let a = start .args in
-    fixed-other (a .s .now) (a .at) (omega arith) (a .word .now) (omega arith) (sym (c .before .begins .ensures) ∙ c .if2 .left)
+    let a = start .args in c .fixed-in .ensures ∙ from-end (fixed (a .word .now)) (a .s .now) (a .at) (omega arith)
 
 pub fixed-at-spec : {M : Type 1} → statement M
-fixed-at-spec =
-    tie.close
-    (tie.spec (λ c. search needs) returns (λ c. search needs) (λ c. search needs) (λ c. search needs) (λ c κs. search needs) (λ c. search needs)
-    returns-2 returns-3)
+fixed-at-spec = tie.close (tie.spec (λ c κs. search needs) returns (λ c κs. search needs) (λ c. search))

@@ -1,0 +1,29 @@
+-- `dat_ranges::judge_in` meets its contract. Assumes nothing.
+use mathlib.Core.Bool.{Bool}
+use mathlib.Core.List.{List}
+use Rattle.dat_format.specs.Header.{Range}
+use Rattle.dat_format.specs.Entries.{entries}
+use Rattle.dat_ranges.specs.Ranges.{testOf}
+use Rattle.dat_format.specs.Tests.{tested}
+use Rattle.dat_ranges.proofs.RangeLaws.{verdict-of}
+use borrow.Author.Needs.{needs}
+use Rattle.dat_ranges.proofs.judge_in.Statement.{statement}
+use Rattle.dat_ranges.proofs.judge_in.Tie as tie
+
+abbrev test : tie.Start → Range → Bool
+test i = testOf (i .args .test)
+
+abbrev judged : tie.Start → List Range
+judged i = entries (i .args .order) (i .args .s .now) (i .args .n) (i .args .from)
+
+returns : tie.Need-returns
+returns c = let i : tie.Start = search in verdict-of (test i) (judged i) _ (search (tested))
+
+returns-2 : tie.Need-returns-2
+returns-2 c = let i : tie.Start = search in verdict-of (test i) (judged i) _ (search (tested))
+
+returns-3 : tie.Need-returns-3
+returns-3 c = let i : tie.Start = search in verdict-of (test i) (judged i) _ (search (tested))
+
+pub judge-in-spec : {M : Type 1} → statement M
+judge-in-spec = tie.close (tie.spec (λ c κs. search needs) (λ c κs. search needs) returns returns-2 returns-3)
