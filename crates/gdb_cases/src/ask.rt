@@ -3,7 +3,6 @@ use crate::show;
 use crate::steps;
 use crate::table;
 use gdb_blocks::BlockAnswer;
-use gdb_blocks::ValueAnswer;
 use gdb_format::Settings;
 use gdb_frames::CountAnswer;
 use gdb_frames::LineAnswer;
@@ -76,10 +75,8 @@ fn memory(settings: Settings, file: &[u8], n: usize, address: u64) {
 }
 
 fn variable(settings: Settings, file: &[u8], n: usize, number: u64) {
-    match gdb_blocks::variable(settings, file, n, (number % 4294967296) as u32) {
-        ValueAnswer::Value(v) => show::signed(v),
-        ValueAnswer::Refused(j) => show::refused(j),
-    }
+    let id = (number % 4294967296) as u32;
+    show::value(gdb_blocks::variable(settings, file, n, id));
 }
 
 // The question that `t` asks, by its first letter and one or two numbers:

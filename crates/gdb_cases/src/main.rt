@@ -1,70 +1,57 @@
-// Asks the questions of a table of cases, in both byte orders, and writes the table with the answers.
+// Runs the rows of a table of cases, in both byte orders, and writes the table with the answers.
 //
 // Refusal 1 is tried in paper_cases/specs/Limit.antt: 67,108,864 bytes fit no array of a program, and there is no heap.
 //
-// A line of the table is a file, a question about the last file, or a note.
-//   = PIECES       a file: H the head, n 0A, "text", xAA a byte, w1 d1 q1 a number of 2, 4 or 8 bytes, c9 cut to 9 bytes
-//   !2 PIECES      the same, asked with the byte order 2
-//   + PIECES       a file, and what its reading answers
-//   ? PIECES       a line's kind
+// A row gives a file, asks a question about the last one, calls a function over both files, or is a note.
+//   = PIECES              the first file: H the head, n 0A, "text", xAA a byte, w1 d1 q1 a number of 2, 4 or 8 bytes in the
+//                         byte order of the run, c9 cut to 9 bytes
+//   !2 PIECES             the same, asked with the byte order 2
+//   + PIECES              the same, and what its reading answers
+//   ? PIECES              the same, and its kind as a line
+//   & PIECES              the second file
+//   > first, > second     the last result of a call, up to its length, as a file
+//   * CALL                a cut of the first file, a join of both or a question about the pair, edit.rt and pair.rt
 //   # NOTE
-// The questions stand in ask.rt and steps.rt.
+// The questions stand in ask.rt and steps.rt. Marks between a row's numbers are for the reader.
 mod ask;
+mod case;
+mod edit;
 mod file;
 mod large;
+mod pair;
+mod selection;
 mod show;
 mod steps;
 mod table;
 
-use file::File;
-use file::ROOM;
-
-// The file that is asked about, and the byte order that the questions give.
-struct Case {
-    file: File,
-    order: u8,
-}
+use case::Case;
 
 fn asked(case: Case, t: &[u8]) {
-    let f = case.file;
+    let f = case.first;
     let bytes = f.bytes;
     show::text(b":");
-    if f.len <= ROOM {
-        ask::question(case.order, table::part(&bytes, 0, f.len), t);
-    } else {
-        show::text(b" no room");
-    }
+    ask::question(case.order, table::part(&bytes, 0, f.len), t);
 }
 
-// The case that a line of the table starts: its pieces, asked with the byte order of the run.
-fn started(order: u8, t: &[u8]) -> Case {
-    Case {
-        file: table::file_of(order, t),
-        order,
-    }
-}
-
-// The case after a line of the table.
+// The case after a row.
 fn step(case: Case, order: u8, t: &[u8]) -> Case {
     show::text(t);
     let mut now = case;
     match table::byte(t, 0) {
         b'#' => {}
-        b'=' => {
-            now = started(order, t);
-        }
-        b'!' => {
-            now = started(order, t);
-            let wrong = table::number_after(t, 0);
-            now.order = (wrong.value % 256) as u8;
+        b'=' | b'!' | b'&' | b'>' => {
+            now = case::given(case, order, t);
         }
         b'+' => {
-            now = started(order, t);
+            now = case::given(case, order, t);
             asked(now, b"summary");
         }
         b'?' => {
-            now = started(order, t);
+            now = case::given(case, order, t);
             asked(now, b"kind");
+        }
+        b'*' => {
+            now = edit::called(case, table::part(t, 2, t.len()));
         }
         _ => asked(case, t),
     }
@@ -75,10 +62,7 @@ fn step(case: Case, order: u8, t: &[u8]) -> Case {
 fn run(order: u8, t: &[u8]) {
     show::number(b"order ", order as u64);
     show::text(b"\n");
-    let mut case = Case {
-        file: file::empty(),
-        order,
-    };
+    let mut case = case::start(order);
     let mut at: usize = 0;
     while at < t.len() {
         let end = table::line_end(t, at);

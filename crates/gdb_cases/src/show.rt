@@ -1,4 +1,5 @@
 // What the answers are printed as.
+use gdb_blocks::ValueAnswer;
 use gdb_data::BlockKind;
 use gdb_data::BlockRecord;
 use gdb_format::LineKind;
@@ -20,11 +21,18 @@ pub(crate) fn refused(n: u8) {
 }
 
 // A signed value. The lowest has no opposite, so what is printed after the sign is one more than the turned bits.
-pub(crate) fn signed(v: i64) {
+fn signed(v: i64) {
     if v >= 0 {
         number(b" value ", v as u64);
     } else {
         number(b" value -", (!v) as u64 + 1);
+    }
+}
+
+pub(crate) fn value(answer: ValueAnswer) {
+    match answer {
+        ValueAnswer::Value(v) => signed(v),
+        ValueAnswer::Refused(n) => refused(n),
     }
 }
 
