@@ -81,8 +81,7 @@ fn variable(settings: Settings, file: &[u8], n: usize, number: u64) {
 
 // The question that `t` asks, by its first letter and one or two numbers:
 // count, line J, frame N, tracepoint N, block N K, registers N, memory N ADDRESS, variable N NUMBER.
-pub(crate) fn question(order: u8, file: &[u8], t: &[u8]) {
-    let settings = Settings { order };
+pub(crate) fn question(settings: Settings, file: &[u8], t: &[u8]) {
     let first = table::number_after(t, 0);
     let second = table::number_after(t, first.next);
     let n = first.value as usize;

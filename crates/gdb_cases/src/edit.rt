@@ -1,7 +1,4 @@
 // The calls over both files, each with its answer.
-use crate::case::Case;
-use crate::file;
-use crate::file::File;
 use crate::pair;
 use crate::selection;
 use crate::show;
@@ -9,66 +6,52 @@ use crate::table;
 use gdb_cut::EditAnswer;
 use gdb_format::Settings;
 
-// A cut of the first file, or the join, into the first `room` bytes of `out`.
-fn written(case: Case, is_cut: bool, room: usize, out: &mut [u8]) -> EditAnswer {
-    let settings = Settings { order: case.order };
-    let f = case.first;
-    let s = case.second;
-    let first = f.bytes;
-    let second = s.bytes;
-    let a = table::part(&first, 0, f.len);
-    let b = table::part(&second, 0, s.len);
-    if room <= out.len() {
-        let lent = &mut out[..room];
-        if is_cut {
-            return gdb_cut::cut(settings, a, case.selection, lent);
-        }
+// The join of both files, or a cut of the first, into the first `room` bytes of `out`. What is kept stands in `kept`.
+fn written(
+    settings: Settings,
+    a: &[u8],
+    b: &[u8],
+    kept: &[u8],
+    room: usize,
+    out: &mut [u8],
+) -> EditAnswer {
+    if out.len() < room {
+        return EditAnswer::Refused(255);
+    }
+    let lent = &mut out[..room];
+    if kept.len() == 0 {
         return gdb_join::join(settings, a, b, lent);
     }
-    EditAnswer::Refused(255)
+    gdb_cut::cut(settings, a, selection::stated(kept), lent)
 }
 
-// The result of a call; nothing where it is refused.
-fn edited(case: Case, is_cut: bool, room: usize) -> File {
-    let mut out = [165; 256];
-    match written(case, is_cut, room, &mut out) {
-        EditAnswer::Written(len) => {
-            show::number(b": written ", len as u64);
-            show::bytes(table::part(&out, 0, room));
-            File { bytes: out, len }
-        }
-        EditAnswer::Refused(n) => {
-            show::text(b":");
-            show::refused(n);
-            show::bytes(table::part(&out, 0, room));
-            file::empty()
-        }
-    }
-}
-
-// The case after a call: keep COUNT LOW..HIGH .., drop likewise, opposite, cut ROOM, join ROOM, and those of a pair.
-pub(crate) fn called(case: Case, t: &[u8]) -> Case {
-    let mut now = case;
+// The answer, and the whole output, all A5 before.
+fn edited(settings: Settings, a: &[u8], b: &[u8], t: &[u8]) {
     let n = table::number_after(t, 0);
     let room = n.value as usize;
-    match table::byte(t, 0) {
-        b'k' => {
-            now.selection = selection::stated(true, t);
-        }
-        b'd' => {
-            now.selection = selection::stated(false, t);
-        }
-        b'o' => {
-            now.selection = gdb_cut::opposite(case.selection);
-            selection::shown(now.selection);
-        }
-        b'c' => {
-            now.result = edited(case, true, room);
-        }
-        b'j' => {
-            now.result = edited(case, false, room);
-        }
-        _ => pair::asked(case, t),
+    let mut out = [165; 256];
+    match written(
+        settings,
+        a,
+        b,
+        table::part(t, n.next, t.len()),
+        room,
+        &mut out,
+    ) {
+        EditAnswer::Written(len) => show::number(b" written ", len as u64),
+        EditAnswer::Refused(k) => show::refused(k),
     }
-    now
+    show::bytes(table::part(&out, 0, room));
+}
+
+// cut ROOM SELECTION, join ROOM, opposite SELECTION, and the questions about the pair.
+pub(crate) fn called<'a>(settings: Settings, a: &'a [u8], b: &'a [u8], t: &[u8]) {
+    match table::byte(t, 0) {
+        b'c' | b'j' => edited(settings, a, b, t),
+        b'o' => {
+            let stated = selection::stated(table::part(t, 8, t.len()));
+            selection::shown(gdb_cut::opposite(stated));
+        }
+        _ => pair::asked(settings, a, b, t),
+    }
 }

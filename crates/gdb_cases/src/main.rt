@@ -2,71 +2,68 @@
 //
 // Refusal 1 is tried in paper_cases/specs/Limit.antt: 67,108,864 bytes fit no array of a program, and there is no heap.
 //
-// A row gives a file, asks a question about the last one, calls a function over both files, or is a note.
-//   = PIECES              the first file: H the head, n 0A, "text", xAA a byte, w1 d1 q1 a number of 2, 4 or 8 bytes in the
-//                         byte order of the run, c9 cut to 9 bytes
-//   !2 PIECES             the same, asked with the byte order 2
-//   + PIECES              the same, and what its reading answers
-//   ? PIECES              the same, and its kind as a line
-//   & PIECES              the second file
-//   > first, > second     the last result of a call, up to its length, as a file
-//   * CALL                a cut of the first file, a join of both or a question about the pair, edit.rt and pair.rt
+// A row gives a file, asks a question about the first one, calls a function over both, or is a note.
+//   = PIECES      the first file: H the head, n 0A, "text", xAA a byte, w1 d1 q1 a number of 2, 4 or 8 bytes in the byte
+//                 order of the run, c9 cut to 9 bytes
+//   !2 PIECES     the same, asked with the byte order 2
+//   + PIECES      the same, and what its reading answers
+//   ? PIECES      the same, and its kind as a line
+//   & PIECES      the second file
+//   * CALL        a cut of the first file, a join of both, or a question about the pair: edit.rt and pair.rt
 //   # NOTE
 // The questions stand in ask.rt and steps.rt. Marks between a row's numbers are for the reader.
 mod ask;
-mod case;
 mod edit;
 mod file;
 mod large;
 mod pair;
+mod row;
 mod selection;
 mod show;
 mod steps;
 mod table;
 
-use case::Case;
+use file::File;
+use gdb_format::Settings;
 
-fn asked(case: Case, t: &[u8]) {
-    let f = case.first;
-    let bytes = f.bytes;
-    show::text(b":");
-    ask::question(case.order, table::part(&bytes, 0, f.len), t);
+// What a row asks.
+fn asked<'a>(settings: Settings, a: &'a [u8], b: &'a [u8], t: &[u8]) {
+    match table::byte(t, 0) {
+        b'#' | b'=' | b'!' | b'&' => {}
+        b'*' => {
+            show::text(b":");
+            edit::called(settings, a, b, table::part(t, 2, t.len()));
+        }
+        _ => {
+            show::text(b":");
+            ask::question(settings, a, t);
+        }
+    }
 }
 
-// The case after a row.
-fn step(case: Case, order: u8, t: &[u8]) -> Case {
-    show::text(t);
-    let mut now = case;
-    match table::byte(t, 0) {
-        b'#' => {}
-        b'=' | b'!' | b'&' | b'>' => {
-            now = case::given(case, order, t);
-        }
-        b'+' => {
-            now = case::given(case, order, t);
-            asked(now, b"summary");
-        }
-        b'?' => {
-            now = case::given(case, order, t);
-            asked(now, b"kind");
-        }
-        b'*' => {
-            now = edit::called(case, table::part(t, 2, t.len()));
-        }
-        _ => asked(case, t),
-    }
-    show::text(b"\n");
-    now
+// A row's answer about the files that stand now.
+fn answered(first: File, second: File, order: u8, t: &[u8]) {
+    let one = first.bytes;
+    let other = second.bytes;
+    let a = table::part(&one, 0, first.len);
+    let b = table::part(&other, 0, second.len);
+    asked(Settings { order }, a, b, t);
 }
 
 fn run(order: u8, t: &[u8]) {
-    show::number(b"order ", order as u64);
-    show::text(b"\n");
-    let mut case = case::start(order);
+    let mut first = file::empty();
+    let mut second = file::empty();
+    let mut given = order;
     let mut at: usize = 0;
     while at < t.len() {
         let end = table::line_end(t, at);
-        case = step(case, order, table::part(t, at, end));
+        let row = table::part(t, at, end);
+        show::text(row);
+        first = row::first(first, order, row);
+        second = row::second(second, order, row);
+        given = row::given(given, order, row);
+        answered(first, second, given, row);
+        show::text(b"\n");
         at = end;
         if end < t.len() {
             at = end + 1;
@@ -74,11 +71,17 @@ fn run(order: u8, t: &[u8]) {
     }
 }
 
+// The table in one byte order.
+fn tried(order: u8, t: &[u8]) {
+    show::number(b"order ", order as u64);
+    show::text(b"\n");
+    run(order, t);
+    large::memories(order);
+}
+
 fn main() {
     let mut buf = io::large_buffer();
     let n = io::read_full(0, &mut buf);
-    run(0, &buf[..n]);
-    large::memories(0);
-    run(1, &buf[..n]);
-    large::memories(1);
+    tried(0, &buf[..n]);
+    tried(1, &buf[..n]);
 }

@@ -1,5 +1,4 @@
 // The questions about a pair of files.
-use crate::case::Case;
 use crate::show;
 use crate::table;
 use gdb_format::Settings;
@@ -22,28 +21,20 @@ fn place(answer: PairPlace) {
     }
 }
 
+fn frame<'a>(settings: Settings, a: &'a [u8], b: &'a [u8], n: usize) {
+    place(gdb_pair::pair_place(settings, a, b, n));
+    show::bytes(gdb_pair::pair_frame(settings, a, b, n));
+}
+
 // pair N, variable N NUMBER.
-pub(crate) fn asked(case: Case, t: &[u8]) {
-    let settings = Settings { order: case.order };
-    let f = case.first;
-    let s = case.second;
-    let first = f.bytes;
-    let second = s.bytes;
-    let a = table::part(&first, 0, f.len);
-    let b = table::part(&second, 0, s.len);
-    let n = table::number_after(t, 0);
-    let number = table::number_after(t, n.next);
-    let k = n.value as usize;
-    show::text(b":");
+pub(crate) fn asked<'a>(settings: Settings, a: &'a [u8], b: &'a [u8], t: &[u8]) {
+    let first = table::number_after(t, 0);
+    let second = table::number_after(t, first.next);
+    let n = first.value as usize;
+    let number = (second.value % 4294967296) as u32;
     match table::byte(t, 0) {
-        b'p' => {
-            place(gdb_pair::pair_place(settings, a, b, k));
-            show::bytes(gdb_pair::pair_frame(settings, a, b, k));
-        }
-        b'v' => {
-            let id = (number.value % 4294967296) as u32;
-            show::value(gdb_pair::pair_variable(settings, a, b, k, id));
-        }
+        b'p' => frame(settings, a, b, n),
+        b'v' => show::value(gdb_pair::pair_variable(settings, a, b, n, number)),
         _ => show::text(b" no such call"),
     }
 }

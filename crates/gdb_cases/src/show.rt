@@ -75,9 +75,7 @@ pub(crate) fn line_kind(kind: LineKind) {
     }
 }
 
-pub(crate) fn block(block: BlockRecord) {
-    number(b" place ", block.place as u64);
-    let kind = block.kind;
+fn kind(kind: BlockKind) {
     match kind {
         BlockKind::Registers => text(b" registers"),
         BlockKind::Memory(span) => {
@@ -89,4 +87,10 @@ pub(crate) fn block(block: BlockRecord) {
             signed(value);
         }
     }
+}
+
+pub(crate) fn block(block: BlockRecord) {
+    number(b" place ", block.place as u64);
+    let k = block.kind;
+    kind(k);
 }

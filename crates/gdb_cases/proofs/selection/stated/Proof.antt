@@ -5,14 +5,13 @@ use Rattle.gdb_cases.proofs.selection.stated.Statement.{statement}
 use Rattle.gdb_cases.proofs.selection.stated.Tie as tie
 
 abbrev Inv-loop : tie.InvT-loop
-Inv-loop keep t count at₀ ranges₀ k₀ at ranges k = Unit {0}
+Inv-loop t count at₀ ranges₀ k₀ at ranges k = Unit {0}
 
 abbrev μ-loop : tie.MeasureT-loop
-μ-loop keep t count at₀ ranges₀ k₀ at ranges k = 8 - k
+μ-loop t count at₀ ranges₀ k₀ at ranges k = 8 - k
 
 pub stated-spec : {M : Type 1} → statement M
 stated-spec =
     tie.close
-    (tie.spec Inv-loop μ-loop (λ c κs. search needs) (λ c. search needs) (λ c κs. search needs) (λ c κs. search needs) (λ c. search needs)
-    (λ c. search needs) (λ c. search needs) (λ c. search needs) (λ c. search needs) (λ c. search needs) (λ c. search needs)
-    (λ c. search needs))
+    (tie.spec Inv-loop μ-loop (λ c κs. search needs) (λ c. search needs) (λ c κs. search needs) (λ c. search needs) (λ c. search needs)
+    (λ c. search needs) (λ c. search needs) (λ c. search needs) (λ c κs. search needs) (λ c. search needs))
