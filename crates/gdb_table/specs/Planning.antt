@@ -60,7 +60,8 @@ module _ (s : Settings) (b : List ℕ) (room : ℕ) where
   none-written n (refused k) e = refl
   none-written n (accepted r) e = never e
 
-  pub plan-refused : (f : Format) (start n : ℕ) → refused n ≡ counted (fitting room (asked s b frameTable)) → Planned s b room (planOf f start 0 (answer.Refused n))
+  pub plan-refused : (f : Format) (start n : ℕ) → refused n ≡ counted (fitting room (asked s b frameTable))
+      → Planned s b room (planOf f start 0 (answer.Refused n))
   unfolding recordsFrom
   plan-refused f start n e = record { answers = e; finds = none-written n (fitting room (asked s b frameTable)) e; fits = omega arith }
 
@@ -68,7 +69,8 @@ module _ (s : Settings) (b : List ℕ) (room : ℕ) where
     pub plan-short : room < m .frames → Planned s b room (planOf (m .format) (m .start) 0 (answer.Refused noRoom))
     plan-short =
         told s b h m e (λ m. room < m .frames → Planned s b room (planOf (m .format) (m .start) 0 (answer.Refused noRoom)))
-        (λ f t r i l. plan-refused f (length (opening (t .lines))) noRoom (rw (r, lt-leb (length (map recordOf (table f t))) room (omega (arith, l, records-length f t)))))
+        (λ f t r i l. plan-refused f (length (opening (t .lines))) noRoom
+        (rw (r, lt-leb (length (map recordOf (table f t))) room (omega (arith, l, records-length f t)))))
 
     pub plan-all : m .frames ≤ room → Planned s b room (planOf (m .format) (m .start) (m .frames) (answer.Frames (m .frames)))
     plan-all =

@@ -22,7 +22,8 @@ returns c =
     let a = start .args in
     let g = o .o .given in
     subst (Planned (a .settings) (a .file .now) (a .room)) (sym (c .plan-of .ensures))
-    (plan-short (a .settings) (a .file .now) (a .room) (file-bytes (search)) (openedMeaning (g .0 .0)) (at-case readingMeaning (g .1) (search)) (c .before .if1 .taken))
+    (plan-short (a .settings) (a .file .now) (a .room) (file-bytes (search)) (openedMeaning (g .0 .0))
+    (at-case readingMeaning (g .1) (search)) (c .before .if1 .taken))
 
 returns-2 : tie.Need-returns-2
 returns-2 c =
@@ -32,7 +33,8 @@ returns-2 c =
     let p = noPlan (g .0 .0) in
     subst (Planned (a .settings) (a .file .now) (a .room)) (sym (c .refusal .ensures))
     (plan-refused (a .settings) (a .file .now) (a .room) (p .format) (p .start) (g .0 .0)
-    (ap (λ x. counted (fitting (a .room) x)) (asked-refused (a .settings) (a .file .now) frameTable (g .0 .0) (at-case readingMeaning (g .1) (search)))))
+    (ap (λ x. counted (fitting (a .room) x)) (asked-refused (a .settings) (a .file .now) frameTable (g .0 .0)
+    (at-case readingMeaning (g .1) (search)))))
 
 returns-3 : tie.Need-returns-3
 returns-3 c =
@@ -41,7 +43,8 @@ returns-3 c =
     let a = start .args in
     let g = o .o .given in
     subst (Planned (a .settings) (a .file .now) (a .room)) (sym (c .plan-of2 .ensures))
-    (plan-all (a .settings) (a .file .now) (a .room) (file-bytes (search)) (openedMeaning (g .0 .0)) (at-case readingMeaning (g .1) (search)) (c .before .if1 .left))
+    (plan-all (a .settings) (a .file .now) (a .room) (file-bytes (search)) (openedMeaning (g .0 .0))
+    (at-case readingMeaning (g .1) (search)) (c .before .if1 .left))
 
 pub planned-spec : {M : Type 1} → statement M
 planned-spec =
