@@ -7,7 +7,8 @@ use lib.ListN.{length}
 use Rattle.fields.specs.Lists.{concatMap}
 use Rattle.gdb_read.specs.Steps.{Row, headMeaning, frameMeaning}
 use Rattle.gdb_listing.specs.Text.{lineOf}
-use Rattle.gdb_listing.specs.Rows.{rowsFrom, rows-zero, rows-none, rows-fault, rows-on, counted-end, counted-on}
+use Rattle.gdb_frames.specs.Rows.{rowsFrom, rows-zero, rows-none, rows-fault, rows-on}
+use Rattle.gdb_listing.specs.Rows.{counted-end, counted-on}
 use Rattle.fields.specs.Given.{at-case}
 use borrow.Author.Needs.{needs}
 use native.Mathlib.Omega.{arith}

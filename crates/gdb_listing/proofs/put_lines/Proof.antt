@@ -6,7 +6,8 @@ use Rattle.fields.specs.Lists.{concatMap}
 use Rattle.gdb_read.specs.Steps.{headMeaning, frameMeaning}
 use Rattle.gdb_listing.specs.Text.{lineOf}
 use Rattle.gdb_listing.specs.Written.{Left, left-all, left-room, left-less}
-use Rattle.gdb_listing.specs.Rows.{rowsFrom, rows-zero, rows-none, rows-fault, rows-on, lines-end, lines-on}
+use Rattle.gdb_frames.specs.Rows.{rowsFrom, rows-zero, rows-none, rows-fault, rows-on}
+use Rattle.gdb_listing.specs.Rows.{lines-end, lines-on}
 use Rattle.fields.specs.Given.{at-case}
 use borrow.Author.Needs.{needs}
 use native.Mathlib.Omega.{arith}

@@ -7,7 +7,7 @@ use Rattle.fields.specs.Output.{lent-full}
 use Rattle.gdb_listing.specs.Text.{framesWord, text}
 use Rattle.gdb_listing.specs.DecimalLaws.{ended-length}
 use Rattle.gdb_listing.specs.Written.{Puts, puts-front, puts-long}
-use Rattle.gdb_listing.specs.Rows.{rowsFrom}
+use Rattle.gdb_frames.specs.Rows.{rowsFrom}
 use Rattle.gdb_listing.specs.Outcome.{put-all}
 use Rattle.gdb_listing.specs.Table.{table-length, puts-table}
 use borrow.Author.Needs.{needs}
