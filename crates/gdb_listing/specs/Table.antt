@@ -20,7 +20,6 @@ use Rattle.gdb_format.specs.Layout.{FrameFits}
 use Rattle.gdb_format.specs.Decode.{read}
 use Rattle.gdb_format.specs.Numbers.{fileNumbers, file-numbers}
 use Rattle.gdb_format.specs.declared.Format.{Format}
-use Rattle.gdb_format.specs.declared.Settings.{Settings}
 use Rattle.gdb_read.specs.Steps.{Row, frameSeen, Summary, readSeen}
 use Rattle.gdb_frames.specs.Questions.{asked, table}
 use Rattle.gdb_frames.specs.File.{File, file-of, length-encode, asked-refused, told}
@@ -45,7 +44,8 @@ frames-length : (f : Format) (xs : List Frame) → 6 * length xs ≤ length (con
 frames-length f [] = omega arith
 frames-length f (x ∷ xs) = omega (arith, length-append (putFrame f x) (concatMap (putFrame f) xs), frame-length f x, frames-length f xs)
 
-lines-short : (f : Format) (size : Option ℕ) (xs : List Frame) (at : ℕ) → Each (FrameFits f size) xs → at + length (concatMap (putFrame f) xs) ≤ listingLimit
+lines-short : (f : Format) (size : Option ℕ) (xs : List Frame) (at : ℕ) → Each (FrameFits f size) xs
+    → at + length (concatMap (putFrame f) xs) ≤ listingLimit
     → length (concatMap lineOf (rowsShown f at xs)) ≤ 18 * length xs
 lines-short f size [] at g h = omega arith
 lines-short f size (x ∷ xs) at g h =
@@ -70,7 +70,8 @@ module _ (f : Format) (b : List ℕ) (t : Trace) (i : File f b t) where
       record {
         count = ap length (rows-table f b t i) ∙ table-long f t;
         few = omega (arith, frames-few);
-        short = rw (rows-table f b t i) (lines-short f (registerSize f (t .lines)) (t .frames) (length (opening (t .lines))) (i .fits .frames-fit) (omega (arith, file-length)));
+        short = rw (rows-table f b t i) (lines-short f (registerSize f (t .lines)) (t .frames) (length (opening (t .lines)))
+            (i .fits .frames-fit) (omega (arith, file-length)));
       }
 
 -- how long a text is
@@ -115,7 +116,8 @@ module _ (b : List ℕ) (h : length b ≤ listingLimit) where
   module _ (g : Bytes b) (m : Summary) (e : accepted m ≡ readSeen (read little b)) where
     pub listed-rows : accepted (rowsFrom (m .format) b (m .frames) (m .start)) ≡ listed b
     listed-rows =
-        told little b g m e (λ m. accepted (rowsFrom (m .format) b (m .frames) (m .start)) ≡ asked little b wholeTable) (λ f t r i. ap accepted (rows-table f b t i) ∙ rw r)
+        told little b g m e (λ m. accepted (rowsFrom (m .format) b (m .frames) (m .start)) ≡ asked little b wholeTable)
+        (λ f t r i. ap accepted (rows-table f b t i) ∙ rw r)
         ∙ sym listed-asked
 
     pub listed-listable : Listable (m .format) b (m .frames) (m .start)
@@ -134,7 +136,8 @@ rows-short f b t h i =
     subst (λ rows. length (text (accepted rows)) ≤ 196626) e (omega (arith, k, l .short, few, decimal-long 4 (length (t .frames)) (omega arith)))
 
 module _ (b : List ℕ) (g : Bytes b) where
-  asked-short : length b ≤ listingLimit → (x : Answer (Format × Trace)) → read little b ≡ x → length (text (next x (λ r. wholeTable (r .0) (r .1)))) ≤ 196626
+  asked-short : length b ≤ listingLimit → (x : Answer (Format × Trace)) → read little b ≡ x
+      → length (text (next x (λ r. wholeTable (r .0) (r .1)))) ≤ 196626
   asked-short h (accepted (f, t)) e = rows-short f b t h (file-of little b f t g e)
   asked-short h (refused n) e = refusal-short n ((refuses-in {P = Listed} fileNumbers (search lit≤) (file-numbers little b)) .only n e .1)
 

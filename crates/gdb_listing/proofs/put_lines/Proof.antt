@@ -22,7 +22,7 @@ abbrev μ-loop : tie.MeasureT-loop
 μ-loop format file start frames out₀ begin at₀ left₀ len₀ out at left len = left
 
 loop-holds : tie.Need-loop-holds Inv-loop μ-loop
-loop-holds c = let s = c .before .before in left-all (s .args .out .now) (s .args .begin) _ (s .pre)
+loop-holds c = let s : tie.Start Inv-loop μ-loop = search in left-all (s .args .out .now) (s .args .begin) _ (s .pre)
 
 same-length : tie.Need-same-length Inv-loop μ-loop
 same-length c = let at-loop : tie.At-loop Inv-loop μ-loop = search in at-loop .loop .inv .long
@@ -50,26 +50,38 @@ returns-2 c =
     (rows-fault (a .format) (a .file .now) (l .at) (l .left) (g .0 .0) (at-case frameMeaning (g .1) (search)))
 
 -- the line of the frame that was met, and those after it, are left
-abbrev line : tie.After-head Inv-loop μ-loop → List ℕ
-line c = lineOf (headMeaning (c .head .given .0 .0))
+abbrev Loop : Type 0
+Loop = tie.At-loop Inv-loop μ-loop
 
-abbrev more : tie.After-head Inv-loop μ-loop → List ℕ
-more c = let a = c .before .before .before .before .before .before .before .args in concatMap lineOf (rowsFrom (a .format) (a .file .now) (c .before .before .before .before .loop .left - 1) (c .head .given .0 .1 .0))
+abbrev Head : Type 0
+Head = tie.After-head Inv-loop μ-loop
 
-met : (c : tie.After-head Inv-loop μ-loop)
-    → Left (c .before .before .before .before .before .before .before .args .out .now) (c .before .before .before .before .before .before .before .args .begin) (let a = c .before .before .before .before .before .before .before .args in concatMap lineOf (rowsFrom (a .format) (a .file .now) (a .frames) (a .start)))
-    (c .before .before .before .before .loop .out) (c .before .before .before .before .loop .len) (line c ++ more c)
-met c =
-    let at-loop : tie.At-loop Inv-loop μ-loop = search in
-    let start′ : tie.Start Inv-loop μ-loop = search in
-    let a = start′ .args in
-    let l = at-loop .loop in
-    let g = c .head .given in
-    lines-on (rowsFrom (a .format) (a .file .now) (l .left) (l .at)) (l .inv) (headMeaning (g .0 .0)) (rowsFrom (a .format) (a .file .now) (l .left - 1) (g .0 .1 .0))
+abbrev to-loop : Head → Loop
+to-loop m = m .before .before .before .before
+
+abbrev start : Loop → tie.Start Inv-loop μ-loop
+start h = h .before .before .before
+
+abbrev line : Head → List ℕ
+line m = lineOf (headMeaning (m .head .given .0 .0))
+
+abbrev more : Head → List ℕ
+more m =
+    let a = start (to-loop m) .args in
+    concatMap lineOf (rowsFrom (a .format) (a .file .now) (to-loop m .loop .left - 1) (m .head .given .0 .1 .0))
+
+met : (m : Head) → let a = start (to-loop m) .args in let l = to-loop m .loop in
+    Left (a .out .now) (a .begin) (concatMap lineOf (rowsFrom (a .format) (a .file .now) (a .frames) (a .start))) (l .out) (l .len) (line m ++ more m)
+met m =
+    let a = start (to-loop m) .args in
+    let l = to-loop m .loop in
+    let g = m .head .given in
+    lines-on (rowsFrom (a .format) (a .file .now) (l .left) (l .at)) (l .inv) (headMeaning (g .0 .0))
+    (rowsFrom (a .format) (a .file .now) (l .left - 1) (g .0 .1 .0))
     (rows-on (a .format) (a .file .now) (l .at) (l .left) (omega arith) (headMeaning (g .0 .0)) (g .0 .1 .0) (at-case frameMeaning (g .1) (search)))
 
 put-line-requires : tie.Need-put-line-requires Inv-loop μ-loop
-put-line-requires c κs = let h = c .before .before in left-room (line h) (more h) (met h)
+put-line-requires c κs = let m : Head = search in left-room (line m) (more m) (met m)
 
 loop-again : tie.Need-loop-again Inv-loop μ-loop
 loop-again c = left-less (met (search)) (c .before .before .put-line .ensures)
