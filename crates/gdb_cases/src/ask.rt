@@ -11,7 +11,7 @@ use gdb_frames::PlaceAnswer;
 
 fn count(settings: Settings, file: &[u8]) {
     match gdb_frames::frame_count(settings, file) {
-        CountAnswer::Frames(n) => show::number(b" ", n as u64),
+        CountAnswer::Frames(n) => show::number(b" ", n),
         CountAnswer::Refused(n) => show::refused(n),
     }
 }
@@ -40,7 +40,7 @@ fn tracepoint(settings: Settings, file: &[u8], n: usize) {
     match gdb_frames::locate(settings, file, n) {
         LocatedAnswer::Frame(found) => {
             let head = found.head;
-            show::number(b" ", head.tracepoint as u64);
+            show::number(b" ", head.tracepoint as usize);
         }
         LocatedAnswer::Refused(k) => {
             show::refused(k);

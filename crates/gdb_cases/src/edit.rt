@@ -38,7 +38,7 @@ fn edited(settings: Settings, a: &[u8], b: &[u8], t: &[u8]) {
         room,
         &mut out,
     ) {
-        EditAnswer::Written(len) => show::number(b" written ", len as u64),
+        EditAnswer::Written(len) => show::number(b" written ", len),
         EditAnswer::Refused(k) => show::refused(k),
     }
     show::bytes(table::part(&out, 0, room));

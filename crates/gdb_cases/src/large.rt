@@ -22,7 +22,7 @@ fn memory(order: u8, pieces: &[u8], len: usize) {
     let bytes = f.bytes;
     let all = extended(bytes);
     show::text(pieces);
-    show::number(b" and 0s up to byte ", len as u64);
+    show::number(b" and 0s up to byte ", len);
     show::text(b":");
     steps::summary(Settings { order }, table::part(&all, 0, len));
     show::text(b"\n");

@@ -73,7 +73,7 @@ fn run(order: u8, t: &[u8]) {
 
 // The table in one byte order.
 fn tried(order: u8, t: &[u8]) {
-    show::number(b"order ", order as u64);
+    show::number(b"order ", order as usize);
     show::text(b"\n");
     run(order, t);
     large::memories(order);

@@ -44,8 +44,8 @@ pub(crate) fn stated(t: &[u8]) -> Selection {
 }
 
 fn range(r: Range) {
-    show::number(b" ", r.low as u64);
-    show::number(b"..", r.high as u64);
+    show::number(b" ", r.low as usize);
+    show::number(b"..", r.high as usize);
 }
 
 // All eight ranges, stated or not.
@@ -55,7 +55,7 @@ pub(crate) fn shown(selection: Selection) {
     } else {
         show::text(b" drop");
     }
-    show::number(b" ", selection.count as u64);
+    show::number(b" ", selection.count);
     let mut k: usize = 0;
     while k < 8 {
         range(selection.ranges[k]);

@@ -11,21 +11,21 @@ pub(crate) fn text(t: &[u8]) {
 }
 
 // A word and a number.
-pub(crate) fn number(word: &[u8], n: u64) {
+pub(crate) fn number(word: &[u8], n: usize) {
     text(word);
-    io::print_decimal(STDOUT_FILENO, n);
+    io::print_decimal(STDOUT_FILENO, n as u64);
 }
 
 pub(crate) fn refused(n: u8) {
-    number(b" refused ", n as u64);
+    number(b" refused ", n as usize);
 }
 
 // A signed value. The lowest has no opposite, so what is printed after the sign is one more than the turned bits.
 fn signed(v: i64) {
     if v >= 0 {
-        number(b" value ", v as u64);
+        number(b" value ", v as usize);
     } else {
-        number(b" value -", (!v) as u64 + 1);
+        number(b" value -", (!v) as usize + 1);
     }
 }
 
@@ -55,8 +55,8 @@ pub(crate) fn bytes(part: &[u8]) {
 pub(crate) fn place(answer: PlaceAnswer) {
     match answer {
         PlaceAnswer::At { place, length } => {
-            number(b" place ", place as u64);
-            number(b" length ", length as u64);
+            number(b" place ", place);
+            number(b" length ", length);
         }
         PlaceAnswer::Refused(n) => {
             refused(n);
@@ -79,18 +79,18 @@ fn kind(kind: BlockKind) {
     match kind {
         BlockKind::Registers => text(b" registers"),
         BlockKind::Memory(span) => {
-            number(b" memory address ", span.address);
-            number(b" length ", span.length as u64);
+            number(b" memory address ", span.address as usize);
+            number(b" length ", span.length);
         }
         BlockKind::Variable { number: n, value } => {
-            number(b" variable ", n as u64);
+            number(b" variable ", n as usize);
             signed(value);
         }
     }
 }
 
 pub(crate) fn block(block: BlockRecord) {
-    number(b" place ", block.place as u64);
+    number(b" place ", block.place);
     let k = block.kind;
     kind(k);
 }

@@ -15,15 +15,15 @@ use gdb_read::Reading;
 fn size(size: RegisterSize) {
     match size {
         RegisterSize::Unknown => show::text(b" no size"),
-        RegisterSize::Bytes(n) => show::number(b" size ", n as u64),
+        RegisterSize::Bytes(n) => show::number(b" size ", n),
     }
 }
 
 fn opened(o: Opened) {
-    show::number(b" start ", o.start as u64);
+    show::number(b" start ", o.start);
     let stated = o.size;
     size(stated);
-    show::number(b" frames ", o.frames as u64);
+    show::number(b" frames ", o.frames);
 }
 
 pub(crate) fn summary(settings: Settings, file: &[u8]) {
@@ -54,15 +54,15 @@ fn block(step: BlockStep) {
             next,
         } => {
             show::block(found);
-            show::number(b" next ", next as u64);
+            show::number(b" next ", next);
         }
     }
 }
 
 fn head(head: FrameHead) {
-    show::number(b" tracepoint ", head.tracepoint as u64);
-    show::number(b" place ", head.place as u64);
-    show::number(b" size ", head.size as u64);
+    show::number(b" tracepoint ", head.tracepoint as usize);
+    show::number(b" place ", head.place);
+    show::number(b" size ", head.size);
 }
 
 fn frame(step: FrameStep) {
@@ -75,7 +75,7 @@ fn frame(step: FrameStep) {
         }
         FrameStep::Frame { head: found, next } => {
             head(found);
-            show::number(b" next ", next as u64);
+            show::number(b" next ", next);
         }
     }
 }
@@ -93,7 +93,7 @@ fn at(format: Format, s: &[u8], t: &[u8]) {
     }
 }
 
-// The questions: +, of the whole file; ?, of the file as a line; and those about a place.
+// The questions: summary or +, of the whole file; ?, of the file as a line; and those about a place.
 pub(crate) fn question(settings: Settings, s: &[u8], t: &[u8]) {
     match table::byte(t, 0) {
         b'+' | b's' => summary(settings, s),
