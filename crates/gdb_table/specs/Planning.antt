@@ -1,7 +1,7 @@
 -- A plan keeps its promise: on a refusal, where there are more frames than records, and else, since the walk over an accepted
 -- file's heads finds the frame table.
 -- Assumes nothing.
-use mathlib.Core.Path.{_≡_, refl, sym, ap, _∙_}
+use mathlib.Core.Path.{_≡_, refl, sym, ap, subst, _∙_}
 use mathlib.Core.Option.{Option, none, some}
 use Prim.Native.Nat.{ℕ, zero, suc, _<_, _≤_}
 use native.Mathlib.Omega.{arith}
@@ -19,12 +19,13 @@ use Rattle.gdb_format.specs.declared.Format.{Format}
 use Rattle.gdb_format.specs.declared.Settings.{Settings}
 use Rattle.gdb_read.specs.Steps.{Row, headSeen, Summary, readSeen}
 use Rattle.gdb_frames.specs.Questions.{asked, table}
-use Rattle.gdb_frames.specs.File.{File, told}
+use Rattle.gdb_frames.specs.File.{File, told, asked-refused}
 use Rattle.gdb_frames.specs.Rows.{rowThen, rowsFrom, table-long, rows-table}
 use Rattle.gdb_table.specs.declared.FrameRecord.{FrameRecord}
+use Rattle.gdb_table.specs.declared.Plan.{Plan}
 use Rattle.gdb_table.specs.declared.TableAnswer.the-variants as answer
 use Rattle.gdb_table.specs.Records.{recordOf, frameTable}
-use Rattle.gdb_table.specs.Walk.{stepTo, recordsFrom, toWrite, planOf, Planned}
+use Rattle.gdb_table.specs.Walk.{stepTo, recordsFrom, toWrite, planOf, noPlan, Planned}
 
 -- ---- the walk finds the table
 
@@ -42,7 +43,7 @@ module _ (f : Format) (b : List ℕ) where
       by n more (accepted (some r)) e = ap (λ l. recordOf (r .0) ∷ l) (more (r .1) (omega (arith, e)))
       by n more (refused k) e = absurd (omega (arith, e))
 
-  pub table-found : (t : Trace) → File f b t → recordsFrom f b (length (t .frames)) (length (opening (t .lines))) ≡ map recordOf (table f t)
+  table-found : (t : Trace) → File f b t → recordsFrom f b (length (t .frames)) (length (opening (t .lines))) ≡ map recordOf (table f t)
   table-found t i =
       let e = rows-table f b t i in
       records-rows (length (t .frames)) (length (opening (t .lines))) (ap length e ∙ table-long f t) ∙ ap (map recordOf) e
@@ -59,25 +60,33 @@ module _ (s : Settings) (b : List ℕ) (room : ℕ) where
   none-written n (refused k) e = refl
   none-written n (accepted r) e = never e
 
-  pub plan-refused : (f : Format) (start n : ℕ) → refused n ≡ counted (fitting room (asked s b frameTable))
+  writes-none : (f : Format) (start n : ℕ) → refused n ≡ counted (fitting room (asked s b frameTable))
       → Planned s b room (planOf f start 0 (answer.Refused n))
   unfolding recordsFrom
-  plan-refused f start n e = record { answers = e; finds = none-written n (fitting room (asked s b frameTable)) e; fits = omega arith }
+  writes-none f start n e = record { answers = e; finds = none-written n (fitting room (asked s b frameTable)) e; fits = omega arith }
+
+  -- a plan that was made for what the reading answers
+  pub plan-refused : (n : ℕ) → refused n ≡ readSeen (read s b) → {p : Plan} → p ≡ noPlan n → Planned s b room p
+  plan-refused n e q =
+      subst (Planned s b room) (sym q)
+      (writes-none (noPlan n .format) (noPlan n .start) n (ap (λ x. counted (fitting room x)) (asked-refused s b frameTable n e)))
 
   module _ (h : Bytes b) (m : Summary) (e : accepted m ≡ readSeen (read s b)) where
-    pub plan-short : room < m .frames → Planned s b room (planOf (m .format) (m .start) 0 (answer.Refused noRoom))
-    plan-short =
-        told s b h m e (λ m. room < m .frames → Planned s b room (planOf (m .format) (m .start) 0 (answer.Refused noRoom)))
-        (λ f t r i l. plan-refused f (length (opening (t .lines))) noRoom
-        (rw (r, lt-leb (length (map recordOf (table f t))) room (omega (arith, l, records-length f t)))))
+    pub plan-short : room < m .frames → {p : Plan} → p ≡ planOf (m .format) (m .start) 0 (answer.Refused noRoom) → Planned s b room p
+    plan-short l q =
+        subst (Planned s b room) (sym q)
+        (told s b h m e (λ m. room < m .frames → Planned s b room (planOf (m .format) (m .start) 0 (answer.Refused noRoom)))
+        (λ f t r i l. writes-none f (length (opening (t .lines))) noRoom
+        (rw (r, lt-leb (length (map recordOf (table f t))) room (omega (arith, l, records-length f t))))) l)
 
-    pub plan-all : m .frames ≤ room → Planned s b room (planOf (m .format) (m .start) (m .frames) (answer.Frames (m .frames)))
-    plan-all =
-        told s b h m e (λ m. m .frames ≤ room → Planned s b room (planOf (m .format) (m .start) (m .frames) (answer.Frames (m .frames))))
+    pub plan-all : m .frames ≤ room → {p : Plan} → p ≡ planOf (m .format) (m .start) (m .frames) (answer.Frames (m .frames)) → Planned s b room p
+    plan-all l q =
+        subst (Planned s b room) (sym q)
+        (told s b h m e (λ m. m .frames ≤ room → Planned s b room (planOf (m .format) (m .start) (m .frames) (answer.Frames (m .frames))))
         (λ f t r i l.
         let k = le-leb (length (map recordOf (table f t))) room (omega (arith, l, records-length f t)) in
         record {
           answers = rw (r, k) (ap accepted (sym (records-length f t)));
           finds = rw (r, k) (table-found f b t i);
           fits = l;
-        })
+        }) l)
