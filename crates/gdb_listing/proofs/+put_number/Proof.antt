@@ -50,6 +50,19 @@ module _ (t : ℕ) where
   abbrev Number : Type 0
   Number = put-number-lts.After-put-number (claims t) (put-number-at t) put-number.Post
 
+  returns : put-number-lts.Need-returns (claims t) (put-number-at t) put-number.Post
+  returns c =
+      let y : Then = search in
+      let d : Digit = search in
+      puts-one (y .if1 .taken) (d .digit .ensures) (c .before .before .put-byte .ensures)
+
+  returns-2 : put-number-lts.Need-returns-2 (claims t) (put-number-at t) put-number.Post
+  returns-2 c =
+      let n : Else = search in
+      let d : Digit2 = search in
+      let k : Number = search in
+      puts-more (n .if1 .left) (d .digit2 .ensures) (k .put-number .ensures) (c .before .before .put-byte2 .ensures)
+
   digit-requires : put-number-lts.Need-digit-requires (claims t) (put-number-at t) put-number.Post
   digit-requires c κs = search needs
 
@@ -61,12 +74,6 @@ module _ (t : ℕ) where
 
   same-length : put-number-lts.Need-same-length (claims t) (put-number-at t) put-number.Post
   same-length c = search needs
-
-  returns : put-number-lts.Need-returns (claims t) (put-number-at t) put-number.Post
-  returns c =
-      let y : Then = search in
-      let d : Digit = search in
-      puts-one (y .if1 .taken) (d .digit .ensures) (c .before .before .put-byte .ensures)
 
   put-number-requires : put-number-lts.Need-put-number-requires (claims t) (put-number-at t) put-number.Post
   put-number-requires c κs =
@@ -86,13 +93,6 @@ module _ (t : ℕ) where
 
   same-length-2 : put-number-lts.Need-same-length-2 (claims t) (put-number-at t) put-number.Post
   same-length-2 c = search needs
-
-  returns-2 : put-number-lts.Need-returns-2 (claims t) (put-number-at t) put-number.Post
-  returns-2 c =
-      let n : Else = search in
-      let d : Digit2 = search in
-      let k : Number = search in
-      puts-more (n .if1 .left) (d .digit2 .ensures) (k .put-number .ensures) (c .before .before .put-byte2 .ensures)
 
 pub +put-number-spec : {M : Type 1} → statement M
 +put-number-spec =
