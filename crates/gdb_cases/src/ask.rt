@@ -7,7 +7,6 @@ use gdb_format::Settings;
 use gdb_frames::CountAnswer;
 use gdb_frames::LineAnswer;
 use gdb_frames::LocatedAnswer;
-use gdb_frames::PlaceAnswer;
 
 fn count(settings: Settings, file: &[u8]) {
     match gdb_frames::frame_count(settings, file) {
@@ -24,7 +23,7 @@ fn line(settings: Settings, file: &[u8], j: usize) {
             length,
         } => {
             show::line_kind(kind);
-            show::place(PlaceAnswer::At { place, length });
+            show::span(place, length);
         }
         LineAnswer::Refused(n) => {
             show::refused(n);

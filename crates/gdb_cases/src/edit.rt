@@ -25,22 +25,20 @@ fn written(
     gdb_cut::cut(settings, a, selection::stated(kept), lent)
 }
 
+fn told(answer: EditAnswer) {
+    match answer {
+        EditAnswer::Written(len) => show::number(b" written ", len),
+        EditAnswer::Refused(n) => show::refused(n),
+    }
+}
+
 // The answer, and the whole output, all A5 before.
 fn edited(settings: Settings, a: &[u8], b: &[u8], t: &[u8]) {
     let n = table::number_after(t, 0);
     let room = n.value as usize;
     let mut out = [165; 256];
-    match written(
-        settings,
-        a,
-        b,
-        table::part(t, n.next, t.len()),
-        room,
-        &mut out,
-    ) {
-        EditAnswer::Written(len) => show::number(b" written ", len),
-        EditAnswer::Refused(k) => show::refused(k),
-    }
+    let kept = table::part(t, n.next, t.len());
+    told(written(settings, a, b, kept, room, &mut out));
     show::bytes(table::part(&out, 0, room));
 }
 

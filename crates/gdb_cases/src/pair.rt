@@ -2,18 +2,17 @@
 use crate::show;
 use crate::table;
 use gdb_format::Settings;
-use gdb_frames::PlaceAnswer;
 use gdb_pair::PairPlace;
 
 fn place(answer: PairPlace) {
     match answer {
         PairPlace::First { place, length } => {
             show::text(b" first");
-            show::place(PlaceAnswer::At { place, length });
+            show::span(place, length);
         }
         PairPlace::Second { place, length } => {
             show::text(b" second");
-            show::place(PlaceAnswer::At { place, length });
+            show::span(place, length);
         }
         PairPlace::Refused(n) => {
             show::refused(n);

@@ -48,14 +48,17 @@ fn range(r: Range) {
     show::number(b"..", r.high as usize);
 }
 
+fn counted(keep: bool, count: usize) {
+    if keep {
+        show::number(b" keep ", count);
+    } else {
+        show::number(b" drop ", count);
+    }
+}
+
 // All eight ranges, stated or not.
 pub(crate) fn shown(selection: Selection) {
-    if selection.keep {
-        show::text(b" keep");
-    } else {
-        show::text(b" drop");
-    }
-    show::number(b" ", selection.count);
+    counted(selection.keep, selection.count);
     let mut k: usize = 0;
     while k < 8 {
         range(selection.ranges[k]);

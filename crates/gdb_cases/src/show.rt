@@ -52,15 +52,15 @@ pub(crate) fn bytes(part: &[u8]) {
     text(b" ]");
 }
 
+pub(crate) fn span(place: usize, length: usize) {
+    number(b" place ", place);
+    number(b" length ", length);
+}
+
 pub(crate) fn place(answer: PlaceAnswer) {
     match answer {
-        PlaceAnswer::At { place, length } => {
-            number(b" place ", place);
-            number(b" length ", length);
-        }
-        PlaceAnswer::Refused(n) => {
-            refused(n);
-        }
+        PlaceAnswer::At { place, length } => span(place, length),
+        PlaceAnswer::Refused(n) => refused(n),
     }
 }
 
