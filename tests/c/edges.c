@@ -9,6 +9,7 @@ int main(void)
 {
     lengths();
     answers();
+    tables();
     limits();
     dats();
     return report();

@@ -4,6 +4,7 @@
 
 void lengths(void);   /* every length of small traces, and wrong arguments */
 void answers(void);   /* what the small traces answer */
+void tables(void);    /* the frame table into records that hold a pattern */
 void limits(void);    /* the longest file and one byte more */
 void dats(void);      /* trace.dat headers */
 

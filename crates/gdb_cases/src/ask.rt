@@ -3,16 +3,14 @@ use crate::show;
 use crate::steps;
 use crate::table;
 use gdb_blocks::BlockAnswer;
-use gdb_blocks::ValueAnswer;
 use gdb_format::Settings;
 use gdb_frames::CountAnswer;
 use gdb_frames::LineAnswer;
 use gdb_frames::LocatedAnswer;
-use gdb_frames::PlaceAnswer;
 
 fn count(settings: Settings, file: &[u8]) {
     match gdb_frames::frame_count(settings, file) {
-        CountAnswer::Frames(n) => show::number(b" ", n as u64),
+        CountAnswer::Frames(n) => show::number(b" ", n),
         CountAnswer::Refused(n) => show::refused(n),
     }
 }
@@ -25,7 +23,7 @@ fn line(settings: Settings, file: &[u8], j: usize) {
             length,
         } => {
             show::line_kind(kind);
-            show::place(PlaceAnswer::At { place, length });
+            show::span(place, length);
         }
         LineAnswer::Refused(n) => {
             show::refused(n);
@@ -41,7 +39,7 @@ fn tracepoint(settings: Settings, file: &[u8], n: usize) {
     match gdb_frames::locate(settings, file, n) {
         LocatedAnswer::Frame(found) => {
             let head = found.head;
-            show::number(b" ", head.tracepoint as u64);
+            show::number(b" ", head.tracepoint as usize);
         }
         LocatedAnswer::Refused(k) => {
             show::refused(k);
@@ -76,16 +74,13 @@ fn memory(settings: Settings, file: &[u8], n: usize, address: u64) {
 }
 
 fn variable(settings: Settings, file: &[u8], n: usize, number: u64) {
-    match gdb_blocks::variable(settings, file, n, (number % 4294967296) as u32) {
-        ValueAnswer::Value(v) => show::signed(v),
-        ValueAnswer::Refused(j) => show::refused(j),
-    }
+    let id = (number % 4294967296) as u32;
+    show::value(gdb_blocks::variable(settings, file, n, id));
 }
 
 // The question that `t` asks, by its first letter and one or two numbers:
 // count, line J, frame N, tracepoint N, block N K, registers N, memory N ADDRESS, variable N NUMBER.
-pub(crate) fn question(order: u8, file: &[u8], t: &[u8]) {
-    let settings = Settings { order };
+pub(crate) fn question(settings: Settings, file: &[u8], t: &[u8]) {
     let first = table::number_after(t, 0);
     let second = table::number_after(t, first.next);
     let n = first.value as usize;

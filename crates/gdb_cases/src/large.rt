@@ -1,4 +1,5 @@
 // Memory of the largest length, 65,535, in a file of 65,561 bytes: too long for the table.
+use crate::file;
 use crate::show;
 use crate::steps;
 use crate::table;
@@ -17,11 +18,11 @@ fn extended(bytes: [u8; 256]) -> [u8; 65561] {
 
 // The file's first `len` bytes, all 0 behind the pieces.
 fn memory(order: u8, pieces: &[u8], len: usize) {
-    let f = table::file_of(order, pieces);
+    let f = file::file_of(order, pieces);
     let bytes = f.bytes;
     let all = extended(bytes);
     show::text(pieces);
-    show::number(b" and 0s up to byte ", len as u64);
+    show::number(b" and 0s up to byte ", len);
     show::text(b":");
     steps::summary(Settings { order }, table::part(&all, 0, len));
     show::text(b"\n");

@@ -1,4 +1,5 @@
 // What the answers are printed as.
+use gdb_blocks::ValueAnswer;
 use gdb_data::BlockKind;
 use gdb_data::BlockRecord;
 use gdb_format::LineKind;
@@ -10,21 +11,28 @@ pub(crate) fn text(t: &[u8]) {
 }
 
 // A word and a number.
-pub(crate) fn number(word: &[u8], n: u64) {
+pub(crate) fn number(word: &[u8], n: usize) {
     text(word);
-    io::print_decimal(STDOUT_FILENO, n);
+    io::print_decimal(STDOUT_FILENO, n as u64);
 }
 
 pub(crate) fn refused(n: u8) {
-    number(b" refused ", n as u64);
+    number(b" refused ", n as usize);
 }
 
 // A signed value. The lowest has no opposite, so what is printed after the sign is one more than the turned bits.
-pub(crate) fn signed(v: i64) {
+fn signed(v: i64) {
     if v >= 0 {
-        number(b" value ", v as u64);
+        number(b" value ", v as usize);
     } else {
-        number(b" value -", (!v) as u64 + 1);
+        number(b" value -", (!v) as usize + 1);
+    }
+}
+
+pub(crate) fn value(answer: ValueAnswer) {
+    match answer {
+        ValueAnswer::Value(v) => signed(v),
+        ValueAnswer::Refused(n) => refused(n),
     }
 }
 
@@ -44,15 +52,15 @@ pub(crate) fn bytes(part: &[u8]) {
     text(b" ]");
 }
 
+pub(crate) fn span(place: usize, length: usize) {
+    number(b" place ", place);
+    number(b" length ", length);
+}
+
 pub(crate) fn place(answer: PlaceAnswer) {
     match answer {
-        PlaceAnswer::At { place, length } => {
-            number(b" place ", place as u64);
-            number(b" length ", length as u64);
-        }
-        PlaceAnswer::Refused(n) => {
-            refused(n);
-        }
+        PlaceAnswer::At { place, length } => span(place, length),
+        PlaceAnswer::Refused(n) => refused(n),
     }
 }
 
@@ -67,18 +75,22 @@ pub(crate) fn line_kind(kind: LineKind) {
     }
 }
 
-pub(crate) fn block(block: BlockRecord) {
-    number(b" place ", block.place as u64);
-    let kind = block.kind;
+fn kind(kind: BlockKind) {
     match kind {
         BlockKind::Registers => text(b" registers"),
         BlockKind::Memory(span) => {
-            number(b" memory address ", span.address);
-            number(b" length ", span.length as u64);
+            number(b" memory address ", span.address as usize);
+            number(b" length ", span.length);
         }
         BlockKind::Variable { number: n, value } => {
-            number(b" variable ", n as u64);
+            number(b" variable ", n as usize);
             signed(value);
         }
     }
+}
+
+pub(crate) fn block(block: BlockRecord) {
+    number(b" place ", block.place);
+    let k = block.kind;
+    kind(k);
 }

@@ -7,23 +7,29 @@ use gdb_format::Checked;
 use gdb_format::Format;
 use gdb_format::RegisterSize;
 use gdb_format::Settings;
+use gdb_read::FrameHead;
 use gdb_read::FrameStep;
+use gdb_read::Opened;
 use gdb_read::Reading;
+
+fn size(size: RegisterSize) {
+    match size {
+        RegisterSize::Unknown => show::text(b" no size"),
+        RegisterSize::Bytes(n) => show::number(b" size ", n),
+    }
+}
+
+fn opened(o: Opened) {
+    show::number(b" start ", o.start);
+    let stated = o.size;
+    size(stated);
+    show::number(b" frames ", o.frames);
+}
 
 pub(crate) fn summary(settings: Settings, file: &[u8]) {
     match gdb_read::read(settings, file) {
-        Reading::Refused(n) => {
-            show::refused(n);
-        }
-        Reading::Accepted(opened) => {
-            show::number(b" start ", opened.start as u64);
-            let size = opened.size;
-            match size {
-                RegisterSize::Unknown => show::text(b" no size"),
-                RegisterSize::Bytes(n) => show::number(b" size ", n as u64),
-            }
-            show::number(b" frames ", opened.frames as u64);
-        }
+        Reading::Refused(n) => show::refused(n),
+        Reading::Accepted(o) => opened(o),
     }
 }
 
@@ -48,9 +54,15 @@ fn block(step: BlockStep) {
             next,
         } => {
             show::block(found);
-            show::number(b" next ", next as u64);
+            show::number(b" next ", next);
         }
     }
+}
+
+fn head(head: FrameHead) {
+    show::number(b" tracepoint ", head.tracepoint as usize);
+    show::number(b" place ", head.place);
+    show::number(b" size ", head.size);
 }
 
 fn frame(step: FrameStep) {
@@ -61,11 +73,9 @@ fn frame(step: FrameStep) {
         FrameStep::Refused(n) => {
             show::refused(n);
         }
-        FrameStep::Frame { head, next } => {
-            show::number(b" tracepoint ", head.tracepoint as u64);
-            show::number(b" place ", head.place as u64);
-            show::number(b" size ", head.size as u64);
-            show::number(b" next ", next as u64);
+        FrameStep::Frame { head: found, next } => {
+            head(found);
+            show::number(b" next ", next);
         }
     }
 }
@@ -83,11 +93,11 @@ fn at(format: Format, s: &[u8], t: &[u8]) {
     }
 }
 
-// The questions: summary; kind, of the file as a line; and those about a place.
+// The questions: summary or +, of the whole file; ?, of the file as a line; and those about a place.
 pub(crate) fn question(settings: Settings, s: &[u8], t: &[u8]) {
     match table::byte(t, 0) {
-        b's' => summary(settings, s),
-        b'k' => show::line_kind(gdb_format::line_kind(s)),
+        b'+' | b's' => summary(settings, s),
+        b'?' => show::line_kind(gdb_format::line_kind(s)),
         _ => match gdb_format::format_of(settings) {
             Checked::Known(format) => at(format, s, t),
             Checked::Refused(n) => show::refused(n),

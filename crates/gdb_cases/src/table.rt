@@ -1,7 +1,5 @@
-// The table's lines: the pieces of a file, and numbers.
+// The table's rows: their bytes, parts and numbers.
 ghost use Prim.Native.Nat.{_≤_};
-use crate::file;
-use crate::file::File;
 
 // Byte k; 0 past the end.
 pub(crate) fn byte(t: &[u8], k: usize) -> u8 {
@@ -43,7 +41,7 @@ pub struct Number {
 }
 
 // A decimal digit's value, or a hexadecimal one's; 16 for other bytes.
-fn digit(b: u8) -> u8
+pub(crate) fn digit(b: u8) -> u8
     ensures { λ r. ⌜ r ≤ 16 ⌝ }
 {
     match b {
@@ -77,38 +75,4 @@ pub(crate) fn number_after(t: &[u8], from: usize) -> Number {
         found,
         next: k,
     }
-}
-
-// The file with the piece that `t` starts with. Digits and spaces are no piece of their own.
-fn with_piece(f: File, order: u8, t: &[u8]) -> File {
-    let n = number_after(t, 0);
-    let x = n.value;
-    match byte(t, 0) {
-        b'H' => file::with_head(f),
-        b'n' => file::with_byte(f, b'\n'),
-        b'x' => file::with_byte(f, digit(byte(t, 1)) % 16 * 16 + digit(byte(t, 2)) % 16),
-        b'w' => file::with_u16(f, order, (x % 65536) as u16),
-        b'd' => file::with_u32(f, order, (x % 4294967296) as u32),
-        b'q' => file::with_u64(f, order, x),
-        b'c' => file::first(f, x as usize),
-        _ => f,
-    }
-}
-
-// The file that a line of pieces describes. What stands in quotes is taken as it is.
-pub(crate) fn file_of(order: u8, t: &[u8]) -> File {
-    let mut f = file::empty();
-    let mut quoted = false;
-    let mut k: usize = 0;
-    while k < t.len() {
-        if t[k] == b'"' {
-            quoted = !quoted;
-        } else if quoted {
-            f = file::with_byte(f, t[k]);
-        } else {
-            f = with_piece(f, order, part(t, k, t.len()));
-        }
-        k += 1;
-    }
-    f
 }

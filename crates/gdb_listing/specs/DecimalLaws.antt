@@ -91,7 +91,8 @@ pub ended-length : (n b : ℕ) → length (ended n b) ≡ length (decimal n) + 1
 unfolding ended
 ended-length n b = length-append (decimal n) (b ∷ [])
 
-pub puts-ended : {out middle after : List ℕ} {at m r : ℕ} (n b : ℕ) → Puts out at (decimal n) m middle → Puts middle m (b ∷ []) r after → Puts out at (ended n b) r after
+pub puts-ended : {out middle after : List ℕ} {at m r : ℕ} (n b : ℕ) → Puts out at (decimal n) m middle → Puts middle m (b ∷ []) r after
+    → Puts out at (ended n b) r after
 unfolding ended
 puts-ended n b p q = puts-then p q
 
@@ -106,7 +107,8 @@ line-length r =
 pub line-digits : (r : Row) → length (lineOf r) ≡ length (decimal (r .tracepoint)) + length (decimal (r .place)) + length (decimal (r .size)) + 3
 line-digits r = omega (arith, line-length r, ended-length (r .tracepoint) 0x20, ended-length (r .place) 0x20, ended-length (r .size) 0x0A)
 
-pub puts-line : {out one two after : List ℕ} {at a b e : ℕ} (r : Row) → Puts out at (ended (r .tracepoint) 0x20) a one → Puts one a (ended (r .place) 0x20) b two
+pub puts-line : {out one two after : List ℕ} {at a b e : ℕ} (r : Row) → Puts out at (ended (r .tracepoint) 0x20) a one
+    → Puts one a (ended (r .place) 0x20) b two
     → Puts two b (ended (r .size) 0x0A) e after → Puts out at (lineOf r) e after
 unfolding lineOf
 puts-line r p q s = puts-then p (puts-then q s)

@@ -1,11 +1,11 @@
--- The walk over an accepted file meets the frame table, whose lines are short; and what is listed, by what the reading answers.
+-- The lines of an accepted file's frame table are short; and what is listed, by what the reading answers.
 -- Assumes nothing.
 use mathlib.Core.Path.{_≡_, refl, sym, ap, _∙_, subst}
 use mathlib.Core.Bool.{Bool, true, false, cond}
 use mathlib.Core.Option.{Option}
-use Prim.Native.Nat.{ℕ, suc, _+_, _*_, _<_, _≤_}
+use Prim.Native.Nat.{ℕ, _+_, _*_, _<_, _≤_}
 use native.Mathlib.Omega.{arith}
-use mathlib.Core.List.{List, [], _∷_, _++_, map}
+use mathlib.Core.List.{List, [], _∷_, _++_}
 use lib.ListN.{length, length-append}
 use lib.Dec.{ltb, lit≤}
 use borrow.Author.Tests.{lt-ltb, le-ltb, ltb-false}
@@ -14,39 +14,20 @@ use Rattle.fields.specs.Lists.{concatMap, Each}
 use Rattle.fields.specs.Number.{Bytes, field, length-field}
 use Rattle.fields.specs.Answer.{Answer, accepted, refused, next}
 use Rattle.fields.specs.Refuses.{refuses-in}
-use Rattle.fields.specs.Element.{nth}
 use Rattle.gdb_format.specs.Trace.{Frame, Trace, opening, putFrame, dataOf}
 use Rattle.gdb_format.specs.Lines.{registerSize}
 use Rattle.gdb_format.specs.Layout.{FrameFits}
 use Rattle.gdb_format.specs.Decode.{read}
 use Rattle.gdb_format.specs.Numbers.{fileNumbers, file-numbers}
 use Rattle.gdb_format.specs.declared.Format.{Format}
-use Rattle.gdb_format.specs.declared.Settings.{Settings}
-use Rattle.gdb_read.specs.Steps.{Row, frameSeen, Summary, readSeen}
-use Rattle.gdb_frames.specs.Places.{placed}
+use Rattle.gdb_read.specs.Steps.{Row, frameSeen, length-encode, Summary, readSeen}
 use Rattle.gdb_frames.specs.Questions.{asked, table}
-use Rattle.gdb_frames.specs.Nth.{nthHead, shownNth}
 use Rattle.gdb_frames.specs.File.{File, file-of, asked-refused, told}
-use Rattle.gdb_frames.specs.Located.{head-nth}
+use Rattle.gdb_frames.specs.Rows.{rowsFrom, rowsShown, table-long, rows-table}
 use Rattle.gdb_listing.specs.Text.{decimal, ended, lineOf, framesWord, refusedWord, text, listingLimit, little, wholeTable, listed}
 use Rattle.gdb_listing.specs.DecimalLaws.{decimal-long, ended-length, line-short}
 use Rattle.gdb_listing.specs.Written.{Puts, puts-then}
-use Rattle.gdb_listing.specs.Rows.{rowsFrom, Listable}
-
--- what frames show that stand from `at` on
-abbrev rowsShown : Format → ℕ → List Frame → List Row
-rowsShown f at xs = map (λ r. frameSeen f (r .0) (r .1)) (placed (putFrame f) at xs)
-
--- the walk meets them
-rows-shown : (f : Format) (s : List ℕ) (xs : List Frame) (at : ℕ)
-    → ((n : ℕ) → nthHead f s n at ≡ shownNth (frameSeen f) (putFrame f) (nth (placed (putFrame f) at xs) n)) → rowsFrom f s (length xs) at ≡ rowsShown f at xs
-rows-shown f s [] at e = refl
-rows-shown f s (x ∷ xs) at e =
-    rw (e 0) (ap (λ rows. frameSeen f at x ∷ rows) (rows-shown f s xs (at + length (putFrame f x)) (λ n. rw (e 0) at (e (suc n)))))
-
-shown-length : (f : Format) (at : ℕ) (xs : List Frame) → length (rowsShown f at xs) ≡ length xs
-shown-length f at [] = refl
-shown-length f at (x ∷ xs) = ap suc (shown-length f (at + length (putFrame f x)) xs)
+use Rattle.gdb_listing.specs.Rows.{Listable}
 
 frame-length : (f : Format) (r : Frame) → length (putFrame f r) ≡ 6 + length (dataOf f r)
 frame-length f r =
@@ -63,7 +44,8 @@ frames-length : (f : Format) (xs : List Frame) → 6 * length xs ≤ length (con
 frames-length f [] = omega arith
 frames-length f (x ∷ xs) = omega (arith, length-append (putFrame f x) (concatMap (putFrame f) xs), frame-length f x, frames-length f xs)
 
-lines-short : (f : Format) (size : Option ℕ) (xs : List Frame) (at : ℕ) → Each (FrameFits f size) xs → at + length (concatMap (putFrame f) xs) ≤ listingLimit
+lines-short : (f : Format) (size : Option ℕ) (xs : List Frame) (at : ℕ) → Each (FrameFits f size) xs
+    → at + length (concatMap (putFrame f) xs) ≤ listingLimit
     → length (concatMap lineOf (rowsShown f at xs)) ≤ 18 * length xs
 lines-short f size [] at g h = omega arith
 lines-short f size (x ∷ xs) at g h =
@@ -77,9 +59,6 @@ lines-short f size (x ∷ xs) at g h =
 -- ---- an accepted file
 
 module _ (f : Format) (b : List ℕ) (t : Trace) (i : File f b t) where
-  pub rows-table : rowsFrom f b (length (t .frames)) (length (opening (t .lines))) ≡ table f t
-  rows-table = rows-shown f b (t .frames) (length (opening (t .lines))) (λ n. head-nth f b t n i)
-
   file-length : length (opening (t .lines)) + length (concatMap (putFrame f) (t .frames)) ≡ length b
   file-length = sym (length-encode f t) ∙ ap length (i .laid-out)
 
@@ -89,9 +68,10 @@ module _ (f : Format) (b : List ℕ) (t : Trace) (i : File f b t) where
   pub listable : length b ≤ listingLimit → Listable f b (length (t .frames)) (length (opening (t .lines)))
   listable h =
       record {
-        count = ap length rows-table ∙ shown-length f (length (opening (t .lines))) (t .frames);
+        count = ap length (rows-table f b t i) ∙ table-long f t;
         few = omega (arith, frames-few);
-        short = rw rows-table (lines-short f (registerSize f (t .lines)) (t .frames) (length (opening (t .lines))) (i .fits .frames-fit) (omega (arith, file-length)));
+        short = rw (rows-table f b t i) (lines-short f (registerSize f (t .lines)) (t .frames) (length (opening (t .lines)))
+            (i .fits .frames-fit) (omega (arith, file-length)));
       }
 
 -- how long a text is
@@ -136,7 +116,8 @@ module _ (b : List ℕ) (h : length b ≤ listingLimit) where
   module _ (g : Bytes b) (m : Summary) (e : accepted m ≡ readSeen (read little b)) where
     pub listed-rows : accepted (rowsFrom (m .format) b (m .frames) (m .start)) ≡ listed b
     listed-rows =
-        told little b g m e (λ m. accepted (rowsFrom (m .format) b (m .frames) (m .start)) ≡ asked little b wholeTable) (λ f t r i. ap accepted (rows-table f b t i) ∙ rw r)
+        told little b g m e (λ m. accepted (rowsFrom (m .format) b (m .frames) (m .start)) ≡ asked little b wholeTable)
+        (λ f t r i. ap accepted (rows-table f b t i) ∙ rw r)
         ∙ sym listed-asked
 
     pub listed-listable : Listable (m .format) b (m .frames) (m .start)
@@ -155,7 +136,8 @@ rows-short f b t h i =
     subst (λ rows. length (text (accepted rows)) ≤ 196626) e (omega (arith, k, l .short, few, decimal-long 4 (length (t .frames)) (omega arith)))
 
 module _ (b : List ℕ) (g : Bytes b) where
-  asked-short : length b ≤ listingLimit → (x : Answer (Format × Trace)) → read little b ≡ x → length (text (next x (λ r. wholeTable (r .0) (r .1)))) ≤ 196626
+  asked-short : length b ≤ listingLimit → (x : Answer (Format × Trace)) → read little b ≡ x
+      → length (text (next x (λ r. wholeTable (r .0) (r .1)))) ≤ 196626
   asked-short h (accepted (f, t)) e = rows-short f b t h (file-of little b f t g e)
   asked-short h (refused n) e = refusal-short n ((refuses-in {P = Listed} fileNumbers (search lit≤) (file-numbers little b)) .only n e .1)
 

@@ -45,7 +45,8 @@ module _ (out : List ℕ) (at : ℕ) (v : List ℕ) (h : at + length v ≤ lengt
   written-twice w =
       let n : at + length v + length w ≡ at + length (v ++ w) = omega (arith, length-append v w) in
       ap₂ (λ x y. x ++ (w ++ y)) front
-      (sym (drop-drop (length w) (at + length v) (written out at v)) ∙ ap (drop (length w)) rest ∙ drop-drop (length w) (at + length v) out ∙ ap (λ k. drop k out) n)
+      (sym (drop-drop (length w) (at + length v) (written out at v)) ∙ ap (drop (length w)) rest ∙ drop-drop (length w) (at + length v) out
+      ∙ ap (λ k. drop k out) n)
       ∙ append-assoc (take at out) v (w ++ drop (at + length (v ++ w)) out)
       ∙ ap (λ l. take at out ++ l) (sym (append-assoc v w (drop (at + length (v ++ w)) out)))
 
@@ -54,7 +55,8 @@ module _ (out : List ℕ) (at : ℕ) (v : List ℕ) (h : at + length v ≤ lengt
 pub puts-long : {before after w : List ℕ} {at r : ℕ} → Puts before at w r after → length after ≡ length before
 puts-long {before} {after} {w} {at} p = ap length (p .bytes) ∙ length-written before at w (p .room)
 
-pub puts-then : {before middle after v w : List ℕ} {at m r : ℕ} → Puts before at v m middle → Puts middle m w r after → Puts before at (v ++ w) r after
+pub puts-then : {before middle after v w : List ℕ} {at m r : ℕ} → Puts before at v m middle → Puts middle m w r after
+    → Puts before at (v ++ w) r after
 puts-then {before} {middle} {after} {v} {w} {at} {m} p q =
     record {
       room = omega (arith, p .ends, q .room, puts-long p, length-append v w);
@@ -98,7 +100,8 @@ left-all before start v h = record { long = refl; room = h; ends = refl; bytes =
 pub left-room : {before v out : List ℕ} {start at : ℕ} (u w : List ℕ) → Left before start v out at (u ++ w) → at + length u ≤ length out
 left-room u w l = omega (arith, l .room, length-append u w)
 
-pub left-less : {before v out u w after : List ℕ} {start at r : ℕ} → Left before start v out at (u ++ w) → Puts out at u r after → Left before start v after r w
+pub left-less : {before v out u w after : List ℕ} {start at r : ℕ} → Left before start v out at (u ++ w) → Puts out at u r after
+    → Left before start v after r w
 left-less {before} {v} {out} {u} {w} {after} {start} {at} {r} l p =
     record {
       long = puts-long p ∙ l .long;

@@ -141,18 +141,3 @@ pub fn table(settings: Settings, file: &[u8], out: &mut [FrameRecord]) -> TableA
     }
     plan.answer
 }
-
-// The answer, and the records after it.
-pub struct Table16 {
-    pub answer: TableAnswer,
-    pub records: [FrameRecord; 16],
-}
-
-// The table in 16 records that go in and come back by value, so that whoever calls this lends none.
-pub fn table_16(settings: Settings, file: &[u8], old: [FrameRecord; 16]) -> Table16
-    ensures { λ r. ⌜ Lent (asked settings (now (file .entry)) frameTable) old (tableMeaning (r .answer)) (r .records) ⌝ }
-{
-    let mut records = old;
-    let answer = table(settings, file, &mut records);
-    Table16 { answer, records }
-}

@@ -31,21 +31,53 @@ abbrev claims : ℕ → put-number-lts.Claims
 claims t = (digit-reads.Asked, digit-reads.Learnt, put-byte-reads.Asked, put-byte-reads.Learnt, put-number-below t, put-number.Post)
 
 module _ (t : ℕ) where
+  -- the places that the answers look back to
+  abbrev Start : Type 0
+  Start = put-number-lts.Start (claims t) (put-number-at t) put-number.Post
+
+  abbrev Then : Type 0
+  Then = put-number-lts.Then1 (claims t) (put-number-at t) put-number.Post
+
+  abbrev Else : Type 0
+  Else = put-number-lts.Else1 (claims t) (put-number-at t) put-number.Post
+
+  abbrev Digit : Type 0
+  Digit = put-number-lts.After-digit (claims t) (put-number-at t) put-number.Post
+
+  abbrev Digit2 : Type 0
+  Digit2 = put-number-lts.After-digit2 (claims t) (put-number-at t) put-number.Post
+
+  abbrev Number : Type 0
+  Number = put-number-lts.After-put-number (claims t) (put-number-at t) put-number.Post
+
+  returns : put-number-lts.Need-returns (claims t) (put-number-at t) put-number.Post
+  returns c =
+      let y : Then = search in
+      let d : Digit = search in
+      puts-one (y .if1 .taken) (d .digit .ensures) (c .before .before .put-byte .ensures)
+
+  returns-2 : put-number-lts.Need-returns-2 (claims t) (put-number-at t) put-number.Post
+  returns-2 c =
+      let n : Else = search in
+      let d : Digit2 = search in
+      let k : Number = search in
+      puts-more (n .if1 .left) (d .digit2 .ensures) (k .put-number .ensures) (c .before .before .put-byte2 .ensures)
+
   digit-requires : put-number-lts.Need-digit-requires (claims t) (put-number-at t) put-number.Post
   digit-requires c κs = search needs
 
   put-byte-requires : put-number-lts.Need-put-byte-requires (claims t) (put-number-at t) put-number.Post
-  put-byte-requires c κs = let s = c .before .before .before .before in one-room (s .args .at) (s .args .n) _ (s .pre .1) (c .before .before .if1 .taken)
+  put-byte-requires c κs =
+      let s : Start = search in
+      let y : Then = search in
+      one-room (s .args .at) (s .args .n) _ (s .pre .1) (y .if1 .taken)
 
   same-length : put-number-lts.Need-same-length (claims t) (put-number-at t) put-number.Post
   same-length c = search needs
 
-  returns : put-number-lts.Need-returns (claims t) (put-number-at t) put-number.Post
-  returns c = puts-one (c .before .before .before .before .before .if1 .taken) (c .before .before .before .digit .ensures) (c .before .before .put-byte .ensures)
-
   put-number-requires : put-number-lts.Need-put-number-requires (claims t) (put-number-at t) put-number.Post
   put-number-requires c κs =
-      let s = c .before .before .before in
+      let s : Start = search in
       let m = more-room (s .args .at) (s .args .n) _ (s .pre .1) (omega arith) in
       (omega (arith, s .pre .0), omega arith)
 
@@ -54,15 +86,13 @@ module _ (t : ℕ) where
 
   put-byte-requires-2 : put-number-lts.Need-put-byte-requires-2 (claims t) (put-number-at t) put-number.Post
   put-byte-requires-2 c κs =
-      let s = c .before .before .before .before .before .before .before .before in
-      let p = c .before .before .before .before .put-number .ensures in
+      let s : Start = search in
+      let k : Number = search in
+      let p = k .put-number .ensures in
       omega (arith, more-room (s .args .at) (s .args .n) _ (s .pre .1) (omega arith), p .ends, puts-long p)
 
   same-length-2 : put-number-lts.Need-same-length-2 (claims t) (put-number-at t) put-number.Post
   same-length-2 c = search needs
-
-  returns-2 : put-number-lts.Need-returns-2 (claims t) (put-number-at t) put-number.Post
-  returns-2 c = puts-more (c .before .before .before .before .before .before .before .before .before .if1 .left) (c .before .before .before .digit2 .ensures) (c .before .before .before .before .before .before .before .put-number .ensures) (c .before .before .put-byte2 .ensures)
 
 pub +put-number-spec : {M : Type 1} → statement M
 +put-number-spec =

@@ -1,6 +1,6 @@
 -- `gdb_listing::digit_count` meets its contract. The loop's invariant: the digits counted and those of the rest are the number's.
 -- Assumes nothing.
-use mathlib.Core.Path.{_≡_, refl}
+use mathlib.Core.Path.{_≡_}
 use Prim.Native.Nat.{_+_, _≤_}
 use native.Mathlib.Nat.{div-lt-self}
 use native.Mathlib.Omega.{arith}
@@ -29,13 +29,13 @@ returns c =
     (e, omega (arith, e, l .inv .1))
 
 add-count : tie.Need-add-count Inv-loop μ-loop
-add-count c = omega (arith, c .before .loop .inv .0, c .before .loop .inv .1)
+add-count c = let l = c .before .loop in omega (arith, l .inv .0, l .inv .1)
 
 loop-less : tie.Need-loop-less Inv-loop μ-loop
 loop-less c = div-lt-self (omega arith) (omega arith)
 
 add-result : tie.Need-add-result Inv-loop μ-loop
-add-result c = omega (arith, c .before .loop .inv .0, c .before .loop .inv .1)
+add-result c = let l = c .before .loop in omega (arith, l .inv .0, l .inv .1)
 
 pub digit-count-spec : {M : Type 1} → statement M
 digit-count-spec =

@@ -1,13 +1,14 @@
 -- `gdb_listing::lines_length` meets its contract. The loop's invariant: what is counted and the lines of the frames that are left are all lines.
 -- Assumes nothing.
-use mathlib.Core.Path.{_≡_, sym, ap, _∙_}
+use mathlib.Core.Path.{_≡_}
 use Prim.Native.Nat.{ℕ, _+_, _-_, _≤_}
 use mathlib.Core.List.{List}
 use lib.ListN.{length}
 use Rattle.fields.specs.Lists.{concatMap}
 use Rattle.gdb_read.specs.Steps.{Row, headMeaning, frameMeaning}
 use Rattle.gdb_listing.specs.Text.{lineOf}
-use Rattle.gdb_listing.specs.Rows.{rowsFrom, rows-zero, rows-none, rows-fault, rows-on, counted-end, counted-on}
+use Rattle.gdb_frames.specs.Rows.{rowsFrom, rows-zero, rows-none, rows-fault, rows-on}
+use Rattle.gdb_listing.specs.Rows.{counted-end, counted-on}
 use Rattle.fields.specs.Given.{at-case}
 use borrow.Author.Needs.{needs}
 use native.Mathlib.Omega.{arith}
@@ -45,12 +46,13 @@ total h = length (concatMap lineOf (rows h (start h .args .frames) (start h .arg
 abbrev more : Head → List Row
 more m = rows (to-loop m) (to-loop m .loop .rest - 1) (m .head .given .0 .1 .0)
 
-met : (m : Head) → to-loop m .loop .len + length (lineOf (headMeaning (m .head .given .0 .0))) + length (concatMap lineOf (more m)) ≡ total (to-loop m)
+met : (m : Head) → to-loop m .loop .len + length (lineOf (headMeaning (m .head .given .0 .0))) + length (concatMap lineOf (more m)) ≡ total
+    (to-loop m)
 met m =
     let l = to-loop m .loop in
     let a = start (to-loop m) .args in
     counted-on _ (l .len) _ (l .inv) (headMeaning (m .head .given .0 .0)) (more m)
-    (rows-on (a .format) (a .file .now) (l .at) (l .rest) (omega arith) _ _ (ap frameMeaning (sym (m .head .given .1)) ∙ m .before .before .head-at .ensures))
+    (rows-on (a .format) (a .file .now) (l .at) (l .rest) (omega arith) _ _ (at-case frameMeaning (m .head .given .1) (search)))
 
 few : (h : Loop) → total h ≤ 1179648
 few h = omega (arith, start h .pre .short, start h .pre .few)

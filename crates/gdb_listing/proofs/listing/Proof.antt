@@ -1,11 +1,7 @@
 -- `gdb_listing::listing` meets its contract: the limit, the whole reading, and then what is to be written.
 -- Assumes nothing.
-use mathlib.Core.Path.{_≡_}
 use Rattle.fields.specs.Number.{Bytes}
-use Rattle.fields.specs.Answer.{accepted}
-use Rattle.gdb_format.specs.Decode.{read}
-use Rattle.gdb_read.specs.Steps.{readSeen, readingMeaning, openedMeaning}
-use Rattle.gdb_listing.specs.Text.{little}
+use Rattle.gdb_read.specs.Steps.{readingMeaning, openedMeaning}
 use Rattle.gdb_listing.specs.Outcome.{lists-same}
 use Rattle.gdb_listing.specs.Table.{listed-long, listed-refused, listed-rows, listed-listable}
 use Rattle.fields.specs.Given.{bytes-given, at-case}
@@ -40,7 +36,8 @@ returns-3 c =
     let q : tie.Start = search in
     let p = c .before .before .put-table in
     lists-same
-    (listed-rows (q .args .file .now) (e .if1 .left) (file-bytes (search)) (openedMeaning (o .o .given .0 .0)) (at-case readingMeaning (o .o .given .1) (search)))
+    (listed-rows (q .args .file .now) (e .if1 .left) (file-bytes (search)) (openedMeaning (o .o .given .0 .0))
+    (at-case readingMeaning (o .o .given .1) (search)))
     (q .args .out .now) (p .result) (p .last .1 .1 .1 .1 .0) (p .ensures)
 
 put-table-requires : tie.Need-put-table-requires
@@ -48,7 +45,8 @@ put-table-requires c κs =
     let o : tie.After-o = search in
     let e : tie.Else1 = search in
     let q : tie.Start = search in
-    listed-listable (q .args .file .now) (e .if1 .left) (file-bytes (search)) (openedMeaning (o .o .given .0 .0)) (at-case readingMeaning (o .o .given .1) (search))
+    listed-listable (q .args .file .now) (e .if1 .left) (file-bytes (search)) (openedMeaning (o .o .given .0 .0))
+    (at-case readingMeaning (o .o .given .1) (search))
 
 pub listing-spec : {M : Type 1} → statement M
 listing-spec =

@@ -7,7 +7,7 @@ use Rattle.gdb_listing.proofs.put_ended.Statement.{statement}
 use Rattle.gdb_listing.proofs.put_ended.Tie as tie
 
 put-number-requires : tie.Need-put-number-requires
-put-number-requires c κs = let s = c .before .before in omega (arith, ended-length (s .args .n) (s .args .end), s .pre)
+put-number-requires c κs = let s : tie.Start = search in omega (arith, ended-length (s .args .n) (s .args .end), s .pre)
 
 put-byte-requires : tie.Need-put-byte-requires
 put-byte-requires c κs =

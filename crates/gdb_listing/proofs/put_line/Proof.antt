@@ -12,10 +12,11 @@ returns c =
     let at-put-ended2 : tie.After-put-ended2 = search in
     let at-put-ended : tie.After-put-ended = search in
     let start : tie.Start = search in
-    puts-line (headMeaning (start .args .head)) (at-put-ended .put-ended .ensures) (at-put-ended2 .put-ended2 .ensures) (c .before .before .put-ended3 .ensures)
+    puts-line (headMeaning (start .args .head)) (at-put-ended .put-ended .ensures) (at-put-ended2 .put-ended2 .ensures)
+    (c .before .before .put-ended3 .ensures)
 
 put-ended-requires : tie.Need-put-ended-requires
-put-ended-requires c κs = let s = c .before .before in omega (arith, line-length (headMeaning (s .args .head)), s .pre)
+put-ended-requires c κs = let s : tie.Start = search in omega (arith, line-length (headMeaning (s .args .head)), s .pre)
 
 put-ended-requires-2 : tie.Need-put-ended-requires-2
 put-ended-requires-2 c κs =

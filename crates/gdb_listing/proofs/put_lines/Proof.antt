@@ -3,10 +3,11 @@
 use Prim.Native.Nat.{ℕ, _-_}
 use mathlib.Core.List.{List, _++_}
 use Rattle.fields.specs.Lists.{concatMap}
-use Rattle.gdb_read.specs.Steps.{headMeaning, frameMeaning}
+use Rattle.gdb_read.specs.Steps.{Row, headMeaning, frameMeaning}
 use Rattle.gdb_listing.specs.Text.{lineOf}
 use Rattle.gdb_listing.specs.Written.{Left, left-all, left-room, left-less}
-use Rattle.gdb_listing.specs.Rows.{rowsFrom, rows-zero, rows-none, rows-fault, rows-on, lines-end, lines-on}
+use Rattle.gdb_frames.specs.Rows.{rowsFrom, rows-zero, rows-none, rows-fault, rows-on}
+use Rattle.gdb_listing.specs.Rows.{lines-end, lines-on}
 use Rattle.fields.specs.Given.{at-case}
 use borrow.Author.Needs.{needs}
 use native.Mathlib.Omega.{arith}
@@ -20,68 +21,77 @@ Inv-loop format file start frames out₀ begin at₀ left₀ len₀ out at left 
 abbrev μ-loop : tie.MeasureT-loop
 μ-loop format file start frames out₀ begin at₀ left₀ len₀ out at left len = left
 
-loop-holds : tie.Need-loop-holds Inv-loop μ-loop
-loop-holds c = let s = c .before .before in left-all (s .args .out .now) (s .args .begin) _ (s .pre)
+abbrev Loop : Type 0
+Loop = tie.At-loop Inv-loop μ-loop
 
-same-length : tie.Need-same-length Inv-loop μ-loop
-same-length c = let at-loop : tie.At-loop Inv-loop μ-loop = search in at-loop .loop .inv .long
+abbrev Head : Type 0
+Head = tie.After-head Inv-loop μ-loop
 
-returns : tie.Need-returns Inv-loop μ-loop
-returns c =
-    let at-loop : tie.At-loop Inv-loop μ-loop = search in
-    let start′ : tie.Start Inv-loop μ-loop = search in
-    let a = start′ .args in
-    let l = at-loop .loop in
-    lines-end (rowsFrom (a .format) (a .file .now) (l .left) (l .at)) (l .inv)
-    (rows-none (a .format) (a .file .now) (l .at) (l .left) (at-case frameMeaning (c .enum-told .given .1) (search)))
+abbrev to-loop : Head → Loop
+to-loop m = m .before .before .before .before
 
-same-length-2 : tie.Need-same-length-2 Inv-loop μ-loop
-same-length-2 c = let at-loop : tie.At-loop Inv-loop μ-loop = search in at-loop .loop .inv .long
+abbrev start : Loop → tie.Start Inv-loop μ-loop
+start h = h .before .before .before
 
-returns-2 : tie.Need-returns-2 Inv-loop μ-loop
-returns-2 c =
-    let at-loop : tie.At-loop Inv-loop μ-loop = search in
-    let start′ : tie.Start Inv-loop μ-loop = search in
-    let a = start′ .args in
-    let l = at-loop .loop in
-    let g = c .enum-told2 .given in
-    lines-end (rowsFrom (a .format) (a .file .now) (l .left) (l .at)) (l .inv)
-    (rows-fault (a .format) (a .file .now) (l .at) (l .left) (g .0 .0) (at-case frameMeaning (g .1) (search)))
+abbrev rows : Loop → ℕ → ℕ → List Row
+rows h n at = rowsFrom (start h .args .format) (start h .args .file .now) n at
+
+abbrev line : Head → List ℕ
+line m = lineOf (headMeaning (m .head .given .0 .0))
+
+abbrev more : Head → List ℕ
+more m = concatMap lineOf (rows (to-loop m) (to-loop m .loop .left - 1) (m .head .given .0 .1 .0))
 
 -- the line of the frame that was met, and those after it, are left
-abbrev line : tie.After-head Inv-loop μ-loop → List ℕ
-line c = lineOf (headMeaning (c .head .given .0 .0))
+met : (m : Head) → let a = start (to-loop m) .args in let l = to-loop m .loop in
+    Left (a .out .now) (a .begin) (concatMap lineOf (rows (to-loop m) (a .frames) (a .start))) (l .out) (l .len) (line m ++ more m)
+met m =
+    let a = start (to-loop m) .args in
+    let l = to-loop m .loop in
+    let g = m .head .given in
+    lines-on (rows (to-loop m) (l .left) (l .at)) (l .inv) (headMeaning (g .0 .0)) (rows (to-loop m) (l .left - 1) (g .0 .1 .0))
+    (rows-on (a .format) (a .file .now) (l .at) (l .left) (omega arith) (headMeaning (g .0 .0)) (g .0 .1 .0)
+    (at-case frameMeaning (g .1) (search)))
 
-abbrev more : tie.After-head Inv-loop μ-loop → List ℕ
-more c = let a = c .before .before .before .before .before .before .before .args in concatMap lineOf (rowsFrom (a .format) (a .file .now) (c .before .before .before .before .loop .left - 1) (c .head .given .0 .1 .0))
-
-met : (c : tie.After-head Inv-loop μ-loop)
-    → Left (c .before .before .before .before .before .before .before .args .out .now) (c .before .before .before .before .before .before .before .args .begin) (let a = c .before .before .before .before .before .before .before .args in concatMap lineOf (rowsFrom (a .format) (a .file .now) (a .frames) (a .start)))
-    (c .before .before .before .before .loop .out) (c .before .before .before .before .loop .len) (line c ++ more c)
-met c =
-    let at-loop : tie.At-loop Inv-loop μ-loop = search in
-    let start′ : tie.Start Inv-loop μ-loop = search in
-    let a = start′ .args in
-    let l = at-loop .loop in
-    let g = c .head .given in
-    lines-on (rowsFrom (a .format) (a .file .now) (l .left) (l .at)) (l .inv) (headMeaning (g .0 .0)) (rowsFrom (a .format) (a .file .now) (l .left - 1) (g .0 .1 .0))
-    (rows-on (a .format) (a .file .now) (l .at) (l .left) (omega arith) (headMeaning (g .0 .0)) (g .0 .1 .0) (at-case frameMeaning (g .1) (search)))
-
-put-line-requires : tie.Need-put-line-requires Inv-loop μ-loop
-put-line-requires c κs = let h = c .before .before in left-room (line h) (more h) (met h)
+loop-holds : tie.Need-loop-holds Inv-loop μ-loop
+loop-holds c = let s : tie.Start Inv-loop μ-loop = search in left-all (s .args .out .now) (s .args .begin) _ (s .pre)
 
 loop-again : tie.Need-loop-again Inv-loop μ-loop
 loop-again c = left-less (met (search)) (c .before .before .put-line .ensures)
 
-same-length-3 : tie.Need-same-length-3 Inv-loop μ-loop
-same-length-3 c = c .before .loop .inv .long
+returns : tie.Need-returns Inv-loop μ-loop
+returns c =
+    let h : Loop = search in
+    let a = start h .args in
+    lines-end (rows h (h .loop .left) (h .loop .at)) (h .loop .inv)
+    (rows-none (a .format) (a .file .now) (h .loop .at) (h .loop .left) (at-case frameMeaning (c .enum-told .given .1) (search)))
+
+returns-2 : tie.Need-returns-2 Inv-loop μ-loop
+returns-2 c =
+    let h : Loop = search in
+    let a = start h .args in
+    lines-end (rows h (h .loop .left) (h .loop .at)) (h .loop .inv)
+    (rows-fault (a .format) (a .file .now) (h .loop .at) (h .loop .left) _ (at-case frameMeaning (c .enum-told2 .given .1) (search)))
 
 returns-3 : tie.Need-returns-3 Inv-loop μ-loop
 returns-3 c =
-    let start′ : tie.Start Inv-loop μ-loop = search in
-    let a = start′ .args in
-    let l = c .before .loop in
-    lines-end (rowsFrom (a .format) (a .file .now) (l .left) (l .at)) (l .inv) (rows-zero (a .format) (a .file .now) (l .at) (l .left) (omega arith))
+    let h : Loop = search in
+    let a = start h .args in
+    lines-end (rows h (h .loop .left) (h .loop .at)) (h .loop .inv)
+    (rows-zero (a .format) (a .file .now) (h .loop .at) (h .loop .left) (omega arith))
+
+-- the output stays as long as it was
+same-length : tie.Need-same-length Inv-loop μ-loop
+same-length c = let h : Loop = search in h .loop .inv .long
+
+same-length-2 : tie.Need-same-length-2 Inv-loop μ-loop
+same-length-2 c = let h : Loop = search in h .loop .inv .long
+
+same-length-3 : tie.Need-same-length-3 Inv-loop μ-loop
+same-length-3 c = let h : Loop = search in h .loop .inv .long
+
+put-line-requires : tie.Need-put-line-requires Inv-loop μ-loop
+put-line-requires c κs = let m : Head = search in left-room (line m) (more m) (met m)
 
 pub put-lines-spec : {M : Type 1} → statement M
 put-lines-spec =

@@ -23,7 +23,8 @@ abbrev start : tie.After-copy → tie.Start
 start c = c .before .before .before .before .before .before
 
 word : (c : tie.After-copy) → let out = start c .args .out .now in Puts out 0 refusedWord (c .copy .result) (c .copy .last .1 .0)
-word c = puts-front (start c .args .out .now) refusedWord (c .copy .last .1 .0) (c .copy .result) (omega arith) (c .copy .ensures .0) (c .copy .ensures .1)
+word c =
+    puts-front (start c .args .out .now) refusedWord (c .copy .last .1 .0) (c .copy .result) (omega arith) (c .copy .ensures .0) (c .copy .ensures .1)
 
 returns-2 : tie.Need-returns-2
 returns-2 c = put-all (puts-then (word (search)) (c .before .before .put-ended .ensures))

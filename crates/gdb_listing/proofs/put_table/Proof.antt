@@ -7,7 +7,7 @@ use Rattle.fields.specs.Output.{lent-full}
 use Rattle.gdb_listing.specs.Text.{framesWord, text}
 use Rattle.gdb_listing.specs.DecimalLaws.{ended-length}
 use Rattle.gdb_listing.specs.Written.{Puts, puts-front, puts-long}
-use Rattle.gdb_listing.specs.Rows.{rowsFrom}
+use Rattle.gdb_frames.specs.Rows.{rowsFrom}
 use Rattle.gdb_listing.specs.Outcome.{put-all}
 use Rattle.gdb_listing.specs.Table.{table-length, puts-table}
 use borrow.Author.Needs.{needs}
@@ -29,13 +29,15 @@ start c = c .before .before .before .before .before .before .before .before
 
 -- there is room, and the word stands at the front
 word : (c : tie.After-copy) → let out = start c .args .out .now in Puts out 0 framesWord (c .copy .result) (c .copy .last .1 .0)
-word c = puts-front (start c .args .out .now) framesWord (c .copy .last .1 .0) (c .copy .result) (omega arith) (c .copy .ensures .0) (c .copy .ensures .1)
+word c =
+    puts-front (start c .args .out .now) framesWord (c .copy .last .1 .0) (c .copy .result) (omega arith) (c .copy .ensures .0) (c .copy .ensures .1)
 
 returns-2 : tie.Need-returns-2
 returns-2 c =
     let k : tie.After-copy = search in
     let q = start k in
-    put-all (puts-table (q .args .format) (q .args .file .now) (q .args .frames) (q .args .start) (q .pre) (word k) (search) (c .before .before .put-lines .ensures))
+    put-all (puts-table (q .args .format) (q .args .file .now) (q .args .frames) (q .args .start) (q .pre) (word k) (search)
+    (c .before .before .put-lines .ensures))
 
 lines-length-requires : tie.Need-lines-length-requires
 lines-length-requires c κs = let q : tie.Start = search in q .pre

@@ -1,7 +1,7 @@
 -- `gdb_cases::show::signed` meets its contract: from 0 on a value is its own magnitude, and below 0 the turned bits are the
 -- value's distance from -1, which is below 2 ^ 63. Assumes nothing.
 use mathlib.Core.Path.{_≡_, sym, ap, subst, _∙_}
-use mathlib.Core.Bool.{Bool, true, false, false≢true}
+use mathlib.Core.Bool.{true, false, false≢true}
 use Prim.Native.Nat.{suc, _+_, _-_, _^_, _<_}
 use lib.IntN.{ℤ, pos, negsuc, natAbs}
 use lib.Dec.{T}
@@ -46,4 +46,5 @@ add-number c =
     subst (λ (z : ℤ). Fits w64 (natAbs z + 1)) (sym (t .1)) (record { fits = omega (arith, t .0) })
 
 pub signed-spec : {M : Type 1} → statement M
-signed-spec = tie.close (tie.spec (λ c. search needs) cast-number (λ c κs. search needs) (λ c. search needs) cast-number-2 add-number (λ c κs. search needs) (λ c. search needs) (λ c. search needs))
+signed-spec = tie.close (tie.spec (λ c. search needs) cast-number (λ c κs. search needs) (λ c. search needs) cast-number-2 add-number
+    (λ c κs. search needs) (λ c. search needs) (λ c. search needs))

@@ -1,0 +1,43 @@
+// What a row gives: the first file, the second, and the byte order of the calls. `order` is the run's.
+use crate::file;
+use crate::file::File;
+use crate::file::ROOM;
+use crate::show;
+use crate::table;
+
+// The file of the row's pieces. One that finds no room is told at once.
+fn built(order: u8, t: &[u8]) -> File {
+    let f = file::file_of(order, t);
+    if ROOM < f.len {
+        show::text(b" no room");
+    }
+    f
+}
+
+// The first file after the row, which was `f` before.
+pub(crate) fn first(f: File, order: u8, t: &[u8]) -> File {
+    match table::byte(t, 0) {
+        b'=' | b'!' | b'+' | b'?' => built(order, t),
+        _ => f,
+    }
+}
+
+// The second file, likewise.
+pub(crate) fn second(f: File, order: u8, t: &[u8]) -> File {
+    if table::byte(t, 0) == b'&' {
+        return built(order, t);
+    }
+    f
+}
+
+// The byte order that is given: each first file states it anew.
+pub(crate) fn given(before: u8, order: u8, t: &[u8]) -> u8 {
+    match table::byte(t, 0) {
+        b'=' | b'+' | b'?' => order,
+        b'!' => {
+            let wrong = table::number_after(t, 0);
+            (wrong.value % 256) as u8
+        }
+        _ => before,
+    }
+}

@@ -1,0 +1,117 @@
+/*
+ * The frame table into records that hold a pattern before: what fits, what does not, and what is refused. No two of the
+ * records before are the same, so that one that moved is seen too.
+ */
+#include "answers.h"
+#include "check.h"
+#include "edges.h"
+#include "traces.h"
+
+#include <stdlib.h>
+
+enum { RECORDS = 16 };
+
+/* A file, and what its table answers; the frames' records, of which there are as many as frames. */
+typedef struct {
+    const char *name;
+    uint8_t order;
+    const char *file;
+    size_t length;
+    uint8_t refusal;
+    size_t frames;
+    tfk_frame records[3];
+} table_case;
+
+#define FILE_OF(text) (text), sizeof(text) - 1
+#define FRAME(number, at, bytes) {.tracepoint = (number), .place = (at), .size = (bytes)}
+
+/* One frame, then 5 bytes; one frame, then data past the file: both read alike in either order. */
+#define SHORT_HEAD BARE "\1\0\0\0\0\0" "\1\0\0\0\0"
+#define SHORT_DATA BARE "\1\0\0\0\0\0" "\1\0\1\0\0\1"
+#define THREE_SIZES HEAD "R 2\n\n" "\1\0\3\0\0\0" "RMM" "\2\0\15\0\0\0" "V\1\0\0\0\377\377\377\377\377\377\377\377" "\1\0\0\0\0\0"
+
+static const table_case CASES[] = {
+    {"two registers, little", 0, FILE_OF(HEAD "R 2\n\n" "\1\0\3\0\0\0" "R\252\273"), 0, 1, {FRAME(1, 19, 3)}},
+    {"two registers, big", 1, FILE_OF(HEAD "R 2\n\n" "\0\1\0\0\0\3" "R\252\273"), 0, 1, {FRAME(1, 19, 3)}},
+    {"sizes 3, 13 and 0", 0, FILE_OF(THREE_SIZES), 0, 3, {FRAME(1, 19, 3), FRAME(2, 28, 13), FRAME(1, 47, 0)}},
+    {"no frames, little", 0, FILE_OF(BARE), 0, 0, {{0}}},
+    {"no frames, big", 1, FILE_OF(BARE), 0, 0, {{0}}},
+    {"no frames, order 2", 2, FILE_OF(BARE), TFK_BAD_ARGUMENT, 0, {{0}}},
+    {"the number 01 00, little", 0, FILE_OF(BARE "\1\0\0\0\0\0"), 0, 1, {FRAME(1, 15, 0)}},
+    {"the number 01 00, big", 1, FILE_OF(BARE "\1\0\0\0\0\0"), 0, 1, {FRAME(256, 15, 0)}},
+    {"one frame, order 2", 2, FILE_OF(BARE "\1\0\0\0\0\0"), TFK_BAD_ARGUMENT, 0, {{0}}},
+    {"empty file, little", 0, FILE_OF(""), TFK_BAD_HEAD, 0, {{0}}},
+    {"empty file, big", 1, FILE_OF(""), TFK_BAD_HEAD, 0, {{0}}},
+    {"empty file, order 2", 2, FILE_OF(""), TFK_BAD_ARGUMENT, 0, {{0}}},
+    {"head alone, little", 0, FILE_OF(HEAD), TFK_NO_EMPTY_LINE, 0, {{0}}},
+    {"head alone, big", 1, FILE_OF(HEAD), TFK_NO_EMPTY_LINE, 0, {{0}}},
+    {"a frame, then 5 bytes, little", 0, FILE_OF(SHORT_HEAD), TFK_SHORT_HEAD, 0, {{0}}},
+    {"a frame, then 5 bytes, big", 1, FILE_OF(SHORT_HEAD), TFK_SHORT_HEAD, 0, {{0}}},
+    {"a frame, then data past the file, little", 0, FILE_OF(SHORT_DATA), TFK_DATA_PAST_FILE, 0, {{0}}},
+    {"a frame, then data past the file, big", 1, FILE_OF(SHORT_DATA), TFK_DATA_PAST_FILE, 0, {{0}}},
+};
+
+/* Record k before. */
+static tfk_frame before(size_t k)
+{
+    tfk_frame record = FRAME((uint16_t)(9000 + k), 900 + k, 90 + k);
+    return record;
+}
+
+static int same_frame(tfk_frame one, tfk_frame other)
+{
+    return is_frame(one, other.tracepoint, other.place, other.size);
+}
+
+/* The table of a file into all records: the answer, the frames' records, and those beyond as they were. */
+static void answers_with(uint8_t order, const uint8_t *bytes, size_t length, uint8_t refusal, size_t frames,
+                         const tfk_frame *expected)
+{
+    tfk_settings settings = {order};
+    uint8_t *file = exactly(bytes, length);
+    tfk_frame *records = patterned(RECORDS * sizeof *records);
+    for (size_t k = 0; k < RECORDS; k++) {
+        records[k] = before(k);
+    }
+    about = length;
+    CHECK(is_count(tfk_frame_table(settings, file, length, records, RECORDS), refusal, frames));
+    for (size_t k = 0; k < RECORDS; k++) {
+        about = k;
+        CHECK(same_frame(records[k], k < frames ? expected[k] : before(k)));
+    }
+    free(records);
+    free(file);
+}
+
+/* Frames without data, numbered from 257 on, so that the two bytes of a number differ: 16 fit, and 17 do not; with 5 bytes
+   behind them the file's own refusal comes first. */
+static void numbered(uint8_t order)
+{
+    enum { OPENING = sizeof(BARE) - 1, HEADS = 6 * (RECORDS + 1) };
+    made file = {.order = order};
+    tfk_frame expected[RECORDS + 1];
+    PUT(&file, BARE);
+    for (size_t k = 0; k <= RECORDS; k++) {
+        put_number(&file, 257 + k, 2);
+        put_number(&file, 0, 4);
+        expected[k] = (tfk_frame)FRAME((uint16_t)(257 + k), file.length, 0);
+    }
+    fill_to(&file, OPENING + HEADS + 5);
+    begin(order ? "16 and 17 frames, big" : "16 and 17 frames, little");
+    answers_with(order, file.bytes, OPENING + HEADS - 6, 0, RECORDS, expected);
+    answers_with(order, file.bytes, OPENING + HEADS, TFK_NO_ROOM, 0, expected);
+    answers_with(order, file.bytes, OPENING + HEADS + 5, TFK_SHORT_HEAD, 0, expected);
+    end();
+}
+
+void tables(void)
+{
+    for (size_t i = 0; i < sizeof CASES / sizeof CASES[0]; i++) {
+        const table_case *row = &CASES[i];
+        begin(row->name);
+        answers_with(row->order, (const uint8_t *)row->file, row->length, row->refusal, row->frames, row->records);
+        end();
+    }
+    numbered(0);
+    numbered(1);
+}
