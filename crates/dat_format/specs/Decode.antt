@@ -126,7 +126,7 @@ header = do
   e ← tail (h .order) (t .cpus)
   give (record { opening = h; sections = s; texts = t; tail = e })
 
--- the CPU ranges, every entry being there: each in order, then overlap
+-- CPU ranges: each entry in order for 14, as `header` reads them; then each in order for 16, then 17
 unfoldable pub checked : ℕ → Header → Answer Header
 checked total h =
     let rs = ranges (h .tail .ending) in

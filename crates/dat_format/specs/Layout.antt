@@ -46,7 +46,7 @@ SectionsFit h = DataFits 8 (h .headerPage) × DataFits 8 (h .headerEvent) × Cou
 abbrev pub TextsFit : Texts → Type 0
 TextsFit h = DataFits 4 (h .kallsyms) × DataFits 4 (h .printk) × DataFits 8 (h .processes) × (h .cpus ≤ mostCpus)
 
--- type 0 ends the list, so no option has it
+-- type 0 ends the list and has no size, so no option has it; otherwise a 4-byte size and data
 abbrev pub OptFits : Opt → Type 0
 OptFits x = (0 < x .type) × (x .type < 256 ^ 2) × DataFits 4 (x .body)
 
@@ -57,7 +57,7 @@ OptionsFit (some l) = Each OptFits l
 abbrev pub RangeFits : Range → Type 0
 RangeFits r = (r .offset < 256 ^ 8) × (r .size < 256 ^ 8)
 
--- one range for each of n CPUs
+-- after `flyrecord`, for each of n CPUs an 8-byte offset and an 8-byte size
 abbrev pub EndingFits : ℕ → Ending → Type 0
 EndingFits n latency = Unit {0}
 EndingFits n (flyrecord rs) = (length rs ≡ n) × Each RangeFits rs

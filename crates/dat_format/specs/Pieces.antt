@@ -19,7 +19,7 @@ such p t k = do
   a ← p
   cond (t a) (give a) (refuse k)
 
--- a fixed string: one cut short runs past the file, one wholly present and wrong is a wrong constant
+-- a fixed string cut short is 14; one wholly present and wrong is 15
 abbrev pub fixed : List ℕ → Reader (List ℕ)
 fixed w = such (bytes (length w) fieldPastFile) (starts w) badConstant
 

@@ -10,12 +10,12 @@ use borrow.Author.Tests.{le-leb, lt-leb}
 use Rattle.refusals.specs.Refusal.{noRoom}
 use Rattle.fields.specs.Answer.{Answer, accepted, refused, next}
 
--- 11 where the result is longer than the room for it; it comes last
+-- 11: the result is longer than the output, or there are more frames than records; it comes last
 abbrev pub fitting : {A : Type 0} → ℕ → Answer (List A) → Answer (List A)
 fitting room (accepted c) = cond (leb (length c) room) (accepted c) (refused noRoom)
 fitting room (refused n) = refused n
 
--- the result at the front, and the output beyond it unchanged; all of it unchanged on a refusal
+-- the result at the front; output beyond it stays unchanged; every refusal leaves the lent buffer unchanged
 abbrev pub over : {A : Type 0} → List A → Answer (List A) → List A
 over out (accepted c) = c ++ drop (length c) out
 over out (refused n) = out

@@ -64,7 +64,7 @@ frameHead f = do
   d ← bytes k dataPastFile
   give (n, d)
 
--- the blocks of a frame
+-- blocks fill the data exactly
 unfoldable pub blocks : Format → Option ℕ → List ℕ → Reader (List Block)
 unfolding block toEnd
 blocks f size d = filling d (block f size)
@@ -76,7 +76,7 @@ frame f size = do
   bs ← blocks f size (h .1)
   give (record { tracepoint = h .0; blocks = bs })
 
--- the frames of a file, from where they start to its end
+-- frames follow up to the end of the file
 unfoldable pub frames : Format → Option ℕ → List ℕ → Answer (List Frame)
 unfolding frame toEnd
 frames f size b = toEnd (frame f size) b
@@ -112,7 +112,7 @@ unfoldable pub decode : Format → List ℕ → Answer Trace
 unfolding trace
 decode f b = let t = trace f b in cond (leb (length b) limit) t (refused tooLong)
 
--- under the caller's settings: the format that they name, and the trace
+-- under the caller's settings: 2, then 1, then the file front to back; the format that they name, and the trace
 unfoldable pub read : Settings → List ℕ → Answer (Format × Trace)
 unfolding decode
 read s b = next (settingsOf s) (λ f. next (decode f b) (λ t. accepted (f, t)))

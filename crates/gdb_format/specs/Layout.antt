@@ -33,7 +33,7 @@ abbrev pub made : ℕ → List ℕ → ℕ
 made n [] = n
 made n (v ∷ vs) = made (n * 10 + v) vs
 
--- the line says n: after `R ` stand one to five digits and nothing else, value 0 to 65,535
+-- the line says n: after `R ` stand one to five decimal digits and nothing else, value 0 to 65,535
 abbrev pub Says : Format → List ℕ → ℕ → Type 0
 Says f l n =
     let d = drop 2 l in

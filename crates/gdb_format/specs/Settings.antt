@@ -11,7 +11,7 @@ use Rattle.gdb_format.specs.declared.Format.{Format}
 use Rattle.gdb_format.specs.declared.Checked.{Checked}
 use Rattle.gdb_format.specs.declared.Checked.the-variants.{Known, Refused}
 
--- the byte order is given by the caller: 0 little, 1 big
+-- byte order is not recorded in a GDB trace, so the caller gives it: 0 little, 1 big
 abbrev pub orderOf : ℕ → Answer Order
 orderOf zero = accepted Little
 orderOf (suc zero) = accepted Big

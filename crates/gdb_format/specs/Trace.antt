@@ -43,7 +43,7 @@ putLine l = l ++ 0x0A ∷ []
 unfoldable pub opening : List (List ℕ) → List ℕ
 opening ls = head ++ (concatMap putLine ls ++ 0x0A ∷ [])
 
--- `R`: the bytes. `M`: 8-byte address, 2-byte length, the bytes. `V`: 4-byte number, 8-byte signed value.
+-- `R` (52): the bytes. `M` (4D): 8-byte address, 2-byte length, the bytes. `V` (56): 4-byte unsigned number, 8-byte signed value in two's complement.
 abbrev pub putBlock : Format → Block → List ℕ
 putBlock f (registers b) = 0x52 ∷ b
 putBlock f (memory a b) = 0x4D ∷ field (f .order) 8 a ++ (field (f .order) 2 (length b) ++ b)
@@ -53,7 +53,7 @@ putBlock f (variable n v) = 0x56 ∷ field (f .order) 4 n ++ field (f .order) 8 
 abbrev pub dataOf : Format → Frame → List ℕ
 dataOf f r = concatMap (putBlock f) (r .blocks)
 
--- a frame's head, a 2-byte tracepoint number and a 4-byte size, and then its data
+-- a frame is a 2-byte tracepoint number, a 4-byte size, then that many bytes of data
 abbrev pub putData : Format → ℕ × List ℕ → List ℕ
 putData f h = field (f .order) 2 (h .0) ++ (field (f .order) 4 (length (h .1)) ++ h .1)
 

@@ -2,17 +2,16 @@
 -- Assumes nothing.
 use mathlib.Core.Path.{_≡_, refl, sym, ap, _∙_}
 use mathlib.Core.Option.{Option, none, some}
-use Prim.Native.Nat.{ℕ, zero, suc, _+_, _<_}
+use Prim.Native.Nat.{ℕ, _+_, _<_}
 use native.Mathlib.Omega.{arith}
-use mathlib.Core.List.{List, [], _∷_, _++_}
-use lib.ListN.{length, take, length-append}
+use mathlib.Core.List.{List, [], _∷_}
+use lib.ListN.{length, take}
 use borrow.Author.Tests.{le-leb}
 use Rattle.refusals.specs.Refusal.{notFound}
 use Rattle.fields.specs.Lists.{concatMap, Each, clash}
-use Rattle.fields.specs.Number.{Bytes, field, length-field}
 use Rattle.fields.specs.Answer.{Answer, accepted, refused, next, never, next-inv, refused-inv, accepted-one, accepted-inj, next-assoc}
 use Rattle.fields.specs.Element.{nth, nth-refused}
-use Rattle.gdb_format.specs.Trace.{Frame, Trace, opening, headIn, putFrame, dataOf}
+use Rattle.gdb_format.specs.Trace.{Frame, Trace, opening, headIn, putFrame}
 use Rattle.gdb_format.specs.Lines.{registerSize, kindOf}
 use Rattle.gdb_format.specs.Layout.{LineFits, FrameFits}
 use Rattle.gdb_format.specs.Decode.{frameHead, read}
@@ -21,7 +20,7 @@ use Rattle.gdb_format.specs.FrameBytes.{frame-long}
 use Rattle.gdb_format.specs.ExactFrame.{exact-head}
 use Rattle.gdb_format.specs.declared.Settings.{Settings}
 use Rattle.gdb_format.specs.declared.Format.{Format}
-use Rattle.gdb_read.specs.Steps.{Row, headSeen, frameSeen, headMeaning, framesEnd, Summary, readSeen}
+use Rattle.gdb_read.specs.Steps.{Row, headSeen, frameSeen, headMeaning, framesEnd, Summary}
 use Rattle.gdb_frames.specs.Places.{linesAt, framesAt, partNamed}
 use Rattle.gdb_frames.specs.Questions.{asked, frameRow, dataIn, frameData, lineAt, linePlace}
 use Rattle.gdb_frames.specs.Nth.{nthHead, shownNth, nth-placed, nthLine, IsLine, nth-line}

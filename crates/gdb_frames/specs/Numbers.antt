@@ -1,6 +1,5 @@
 -- Which numbers the questions about lines and frames can refuse with: a file's own, and 12 where the thing that was asked for is not there.
 -- Assumes nothing.
-use mathlib.Core.Path.{sym, subst}
 use Prim.Native.Nat.{ℕ}
 use mathlib.Core.List.{List, [], _∷_, _++_}
 use Rattle.refusals.specs.Refusal.{notFound}

@@ -27,7 +27,7 @@ bare t = withFrames t []
 abbrev pub withinLimit : List ℕ → Answer (List ℕ)
 withinLimit b = cond (leb (length b) limit) (accepted b) (refused tooLong)
 
--- the first file's faults, the second's, 13 for openings that differ, 1 for the result
+-- 2; the first file's faults, length included; the second's; 13; 1 for the result (11 is in fields/specs/Output.antt)
 unfoldable pub joinOf : Settings → List ℕ → List ℕ → Answer (List ℕ)
 unfolding encode opening
 joinOf s a b =

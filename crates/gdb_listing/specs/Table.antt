@@ -11,10 +11,11 @@ use lib.Dec.{ltb, lit≤}
 use borrow.Author.Tests.{lt-ltb, le-ltb, ltb-false}
 use Rattle.refusals.specs.Refusal.{tooLong, last, Listed}
 use Rattle.fields.specs.Lists.{concatMap, Each}
-use Rattle.fields.specs.Number.{Bytes, field, length-field}
+use Rattle.fields.specs.Number.{Bytes}
 use Rattle.fields.specs.Answer.{Answer, accepted, refused, next}
 use Rattle.fields.specs.Refuses.{refuses-in}
-use Rattle.gdb_format.specs.Trace.{Frame, Trace, opening, putFrame, dataOf}
+use Rattle.gdb_format.specs.FrameBytes.{frame-long}
+use Rattle.gdb_format.specs.Trace.{Frame, Trace, opening, headIn, putFrame}
 use Rattle.gdb_format.specs.Lines.{registerSize}
 use Rattle.gdb_format.specs.Layout.{FrameFits}
 use Rattle.gdb_format.specs.Decode.{read}
@@ -29,20 +30,9 @@ use Rattle.gdb_listing.specs.DecimalLaws.{decimal-long, ended-length, li
 use Rattle.gdb_listing.specs.Written.{Puts, puts-then}
 use Rattle.gdb_listing.specs.Rows.{Listable}
 
-frame-length : (f : Format) (r : Frame) → length (putFrame f r) ≡ 6 + length (dataOf f r)
-frame-length f r =
-    let d = dataOf f r in
-    omega (
-      arith,
-      length-append (field (f .order) 2 (r .tracepoint)) (field (f .order) 4 (length d) ++ d),
-      length-append (field (f .order) 4 (length d)) d,
-      length-field (f .order) 2 (r .tracepoint),
-      length-field (f .order) 4 (length d),
-    )
-
 frames-length : (f : Format) (xs : List Frame) → 6 * length xs ≤ length (concatMap (putFrame f) xs)
 frames-length f [] = omega arith
-frames-length f (x ∷ xs) = omega (arith, length-append (putFrame f x) (concatMap (putFrame f) xs), frame-length f x, frames-length f xs)
+frames-length f (x ∷ xs) = omega (arith, length-append (putFrame f x) (concatMap (putFrame f) xs), frame-long f (headIn f x), frames-length f xs)
 
 lines-short : (f : Format) (size : Option ℕ) (xs : List Frame) (at : ℕ) → Each (FrameFits f size) xs
     → at + length (concatMap (putFrame f) xs) ≤ listingLimit
@@ -50,7 +40,7 @@ lines-short : (f : Format) (size : Option ℕ) (xs : List Frame) (at : ℕ) → 
 lines-short f size [] at g h = omega arith
 lines-short f size (x ∷ xs) at g h =
     let k = length-append (putFrame f x) (concatMap (putFrame f) xs) in
-    let m = frame-length f x in
+    let m = frame-long f (headIn f x) in
     let tp : x .tracepoint < 65536 = g .0 .0 in
     let one = line-short (frameSeen f at x) (omega arith) (omega (arith, k, m)) (omega (arith, k, m)) in
     let more = lines-short f size xs (at + length (putFrame f x)) (g .1) (omega (arith, k)) in

@@ -35,7 +35,7 @@ sided f n t u =
     let k = length (t .frames) in
     cond (ltb n k) (onSide first (frameData n f t)) (onSide second (frameData (n - k) f u))
 
--- the refusals are the join's, with 12 for a frame that is not there
+-- refusals are the join's, with 12 in place of 11; the place question also says which trace
 unfoldable pub pairPlace : Settings → List ℕ → List ℕ → ℕ → Answer (Side × (ℕ × ℕ))
 pairPlace s a b n = next (joinOf s a b) (λ c. next (read s a) (λ p. next (read s b) (λ q. sided (p .0) n (p .1) (q .1))))
 

@@ -7,11 +7,11 @@ use native.Mathlib.Nat.{lt-of-not-le}
 use native.Mathlib.Decide.{decLe}
 use native.Mathlib.Omega.{arith}
 use mathlib.Core.Logic.{by-cases}
-use mathlib.Core.List.{List, _++_, append-assoc}
-use lib.ListN.{length, take, drop, length-append, length-drop}
+use mathlib.Core.List.{List, _++_}
+use lib.ListN.{length, take, drop, length-drop}
 use Rattle.refusals.specs.Refusal.{shortHead, dataPastFile}
 use Rattle.fields.specs.Lists.{length-part, part-front, part-there, part-lengths}
-use Rattle.fields.specs.Number.{Bytes, number, wordAt, word-in, field, length-field, bytes-drop, bytes-take}
+use Rattle.fields.specs.Number.{Bytes, number, wordAt, word-in, bytes-drop, bytes-take}
 use Rattle.fields.specs.Answer.{accepted, refused, refused-inv, next-inv}
 use Rattle.fields.specs.Reader.{stepAt, toEnd}
 use Rattle.fields.specs.Exact.{forth-toEnd}

@@ -10,7 +10,7 @@ use Rattle.fields.specs.Answer.{Answer, accepted, refused}
 use Rattle.gdb_select.specs.declared.Range.{Range}
 use Rattle.gdb_select.specs.declared.Selection as lent
 
--- inclusive ranges of tracepoint numbers, and a sense: keep selects the numbers in some range, drop the others
+-- inclusive ranges of tracepoint numbers, and a sense: keep or drop. Keep selects the numbers in some range; drop selects the others.
 pub record Selection : Type 0 where
   pub keep : Bool
   pub ranges : List (ℕ × ℕ)

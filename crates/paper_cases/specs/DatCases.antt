@@ -1,4 +1,4 @@
--- Document 01's cases of trace.dat, and both sides of its rules, as one table with one statement about it; the bytes are wholeFile out.
+-- Document 01's cases of trace.dat, and both sides of its rules, as one table with one statement about it; the bytes are written out.
 -- Assumes nothing.
 use mathlib.Core.Path.{_≡_, refl}
 use Prim.Native.Nat.{ℕ, _-_, _^_}

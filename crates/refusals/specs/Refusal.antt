@@ -6,11 +6,11 @@ use Prim.Native.Nat.{ℕ, _≤_}
 abbrev pub limit : ℕ
 limit = 67108864
 
--- a file, or a join's result, is longer than that
+-- a file, or a join's result, is longer than 67,108,864 bytes
 abbrev pub tooLong : ℕ
 tooLong = 1
 
--- an argument is wrong: the byte order, or a selection
+-- an argument is wrong: byte order not 0 or 1; a range with low above high; more than 8 ranges
 abbrev pub badArgument : ℕ
 badArgument = 2
 
@@ -50,7 +50,7 @@ noRegisterSize = 10
 abbrev pub noRoom : ℕ
 noRoom = 11
 
--- no such line, frame, block, CPU, register block or variable; no covering block
+-- no such line, frame, block, CPU; no covering block; no such register block or variable
 abbrev pub notFound : ℕ
 notFound = 12
 

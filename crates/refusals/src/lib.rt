@@ -3,9 +3,9 @@
 // The longest file, 64 MiB.
 pub const LIMIT: usize = 67108864;
 
-// A file, or a join's result, is longer than that.
+// A file, or a join's result, is longer than 67,108,864 bytes.
 pub const TOO_LONG: u8 = 1;
-// An argument is wrong: the byte order, or a selection.
+// An argument is wrong: byte order not 0 or 1; a range with low above high; more than 8 ranges.
 pub const BAD_ARGUMENT: u8 = 2;
 // The head differs or is cut short.
 pub const BAD_HEAD: u8 = 3;
@@ -25,7 +25,7 @@ pub const BLOCK_PAST_DATA: u8 = 9;
 pub const NO_REGISTER_SIZE: u8 = 10;
 // The result is longer than the output, or there are more frames than records.
 pub const NO_ROOM: u8 = 11;
-// No such line, frame, block, CPU, register block or variable; no covering block.
+// No such line, frame, block, CPU; no covering block; no such register block or variable.
 pub const NOT_FOUND: u8 = 12;
 // The openings to be joined differ.
 pub const OPENINGS_DIFFER: u8 = 13;

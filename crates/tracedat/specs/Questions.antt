@@ -20,7 +20,7 @@ use Rattle.tracedat.specs.declared.RangeAnswer.the-variants as rangeansw
 unfoldable pub summed : List ℕ → Answer Summary
 summed b = next (decode b) (λ h. accepted (parts.summary (length b) h))
 
--- CPU i's range as stored; 12 where there is no such CPU, and a latency file has none
+-- CPU i's range: one of size 0 is answered as stored; for a latency file, and where there is no such CPU, it is refused with 12
 unfoldable pub cpuRange : ℕ → List ℕ → Answer Range
 cpuRange i b = next (decode b) (λ h. nth (ranges (h .tail .ending)) i)
 

@@ -1,4 +1,4 @@
-//! The rules' own cases, "Both sides of each edge" and those of the project's readings, with values written out here.
+//! Document 01's own cases, "Both sides of each edge", and those of docs/DECISIONS.md, "How the papers are read", with values written out here.
 //! The second reader is held to them first, then the library.
 
 use tufakpeni_tests::answers::SECOND;

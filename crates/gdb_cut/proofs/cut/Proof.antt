@@ -1,9 +1,9 @@
 -- `gdb_cut::cut` meets its contract: each way out is one of the three outcomes.
 -- Assumes nothing.
-use mathlib.Core.Path.{_≡_, sym, ap, _∙_}
+use mathlib.Core.Path.{_≡_, sym, _∙_}
 use mathlib.Core.Bool.{true}
-use mathlib.Core.List.{List, _++_}
-use lib.ListN.{length, take, drop}
+use mathlib.Core.List.{List}
+use lib.ListN.{length, take}
 use Rattle.fields.specs.Given.{at-case}
 use borrow.Author.Tests.{not-true, not-false, leb-true, leb-false}
 use Rattle.refusals.specs.Refusal.{badArgument}
