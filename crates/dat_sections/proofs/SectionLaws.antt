@@ -36,7 +36,7 @@ Piece o w s at m = Got (after w (sized o 8)) (DataFits 8) (λ d. w ++ putSized o
 abbrev pub Counted : {A : Type 0} → Order → Reader A → (A → Type 0) → (A → List ℕ) → List ℕ → ℕ → ℕ → Type 0
 Counted o p F put s at m = Got (counted o p) (CountFits F) (putCounted o put) s at m
 
-pub piece-end : (o : Order) (w s : List ℕ) (at m : ℕ) (g : Piece o w s at m) → m ≡ at + (length w + 8) + length (g .value)
+piece-end : (o : Order) (w s : List ℕ) (at m : ℕ) (g : Piece o w s at m) → m ≡ at + (length w + 8) + length (g .value)
 piece-end o w s at m g = omega (arith, g .place, length-append w (putSized o 8 (g .value)), length-sized o 8 (g .value))
 
 module _ {A : Type 0} (o : Order) (p : Reader A) (F : A → Type 0) (put : A → List ℕ) (s : List ℕ) (at m : ℕ) (g : Counted o p F put s at m) where
@@ -46,7 +46,7 @@ module _ {A : Type 0} (o : Order) (p : Reader A) (F : A → Type 0) (put : A →
   abbrev body : List ℕ
   body = concatMap put (g .value)
 
-  pub counted-end : m ≡ at + 4 + length body
+  counted-end : m ≡ at + 4 + length body
   counted-end = omega (arith, g .place, length-append (field o 4 count) body, length-field o 4 count)
 
   -- the count that stands there
