@@ -22,7 +22,7 @@ use Rattle.dat_format.specs.ExactPieces.{exact-after, exact-sized, exact-counte
 use Rattle.dat_format.specs.ExactSections.{exact-system}
 use Rattle.dat_read.specs.Steps.{stepMeaning}
 use Rattle.dat_read.specs.Summary.{partTo, sectionParts}
-use Rattle.dat_read.specs.Read.{Begun, stopped, gone-on, nothing-there, length-sized, part-is}
+use Rattle.dat_read.specs.Read.{Begun, stopped, gone-on, nothing-there, length-sized, length-counted, part-is}
 use Rattle.dat_read.specs.declared.pieces.Step.{Step}
 use Rattle.dat_read.specs.declared.pieces.Step.the-variants.{Next, Refused}
 use Rattle.dat_read.specs.declared.summary.Part.{Part}
@@ -47,7 +47,7 @@ module _ {A : Type 0} (o : Order) (p : Reader A) (F : A → Type 0) (put : A →
   body = concatMap put (g .value)
 
   counted-end : m ≡ at + 4 + length body
-  counted-end = omega (arith, g .place, length-append (field o 4 count) body, length-field o 4 count)
+  counted-end = omega (arith, g .place, length-counted o put (g .value))
 
   -- the count that stands there
   count-is : (n : ℕ) → n ≡ wordAt o 4 s at → n ≡ count

@@ -21,7 +21,7 @@ use Rattle.dat_format.specs.ExactPieces.{exact-times}
 use Rattle.dat_format.specs.ExactTail.{exact-range}
 use Rattle.dat_format.specs.Exactness.{exactness}
 use Rattle.dat_read.specs.Summary.{partTo, kindOf, optionsPart, bodyAt, bodyOf, summary}
-use Rattle.dat_read.specs.Read.{length-sized}
+use Rattle.dat_read.specs.Read.{length-sized, length-counted}
 use Rattle.dat_read.specs.declared.summary.Part.{Part}
 use Rattle.dat_read.specs.declared.summary.Summary.{Summary}
 
@@ -59,9 +59,6 @@ module _ {b : List ℕ} {at : ℕ} (o : Order) where
 
   counted-back : {A : Type 0} (put : A → List ℕ) (l : List A) → Holds b at (putCounted o put l) → Holds b (at + 4) (concatMap put l)
   counted-back put l h = number-back 4 (length l) h
-
-counted-length : {A : Type 0} (o : Order) (put : A → List ℕ) (l : List A) → length (putCounted o put l) ≡ 4 + length (concatMap put l)
-counted-length o put l = omega (arith, length-append (field o 4 (length l)) (concatMap put l), length-field o 4 (length l))
 
 -- ---- a header that opens b
 
@@ -125,7 +122,7 @@ module _ (b rest : List ℕ) (h : Header) (laid : encode h ++ rest ≡ b) where
   event-length = length-sized o 8 (h .sections .headerEvent)
 
   formats-length : length formatList ≡ 4 + length (concatMap (putSized o 8) (h .sections .formats))
-  formats-length = counted-length o (putSized o 8) (h .sections .formats)
+  formats-length = length-counted o (putSized o 8) (h .sections .formats)
 
   header-page-holds : bytesIn b (parts .sections .«header_page») ≡ h .sections .headerPage
   unfolding summary
