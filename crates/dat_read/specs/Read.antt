@@ -6,6 +6,7 @@ use Prim.Native.Nat.{ℕ, _+_, _-_, _≤_}
 use native.Mathlib.Omega.{arith}
 use mathlib.Core.List.{List, []}
 use lib.ListN.{length, drop, length-append, drop-of-length-le}
+use Rattle.fields.specs.Lists.{concatMap}
 use Rattle.fields.specs.Number.{Bytes, field, length-field}
 use Rattle.fields.specs.Word.{starts}
 use Rattle.fields.specs.Answer.{refused}
@@ -14,7 +15,7 @@ use Rattle.fields.specs.Exact.{Exact}
 use Rattle.fields.specs.Given.{at-case}
 use Rattle.fields.specs.Got.{Got, not-read, passed}
 use Rattle.fields.specs.declared.Order.{Order}
-use Rattle.dat_format.specs.Pieces.{fixed, sized, putSized}
+use Rattle.dat_format.specs.Pieces.{fixed, sized, putSized, putCounted}
 use Rattle.dat_format.specs.Layout.{DataFits}
 use Rattle.dat_read.specs.Steps.{stepMeaning}
 use Rattle.dat_read.specs.Summary.{part, partTo}
@@ -65,6 +66,13 @@ length-sized o w d = omega (arith, length-append (field o w (length d)) d, lengt
 
 pub sized-end : (o : Order) (w : ℕ) (s : List ℕ) (at m : ℕ) (g : Sized o w s at m) → m ≡ at + w + length (g .value)
 sized-end o w s at m g = omega (arith, g .place, length-sized o w (g .value))
+
+-- ---- elements behind their count
+
+pub length-counted : {A : Type 0} (o : Order) (put : A → List ℕ) (l : List A) → length (putCounted o put l) ≡ 4 + length (concatMap put l)
+length-counted o put l = omega (arith, length-append (field o 4 (length l)) (concatMap put l), length-field o 4 (length l))
+
+-- ---- a part of the file
 
 -- a part that ends where what was read ends
 pub part-is : (at next n : ℕ) (p : Part) → p ≡ partTo at next → next ≡ at + n → p ≡ part at n

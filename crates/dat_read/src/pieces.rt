@@ -16,6 +16,7 @@ pub enum Step {
     Refused(u8),
 }
 
+// A fixed string at a place in the file.
 fn fixed_in<'a>(s: &'a [u8], word: &'a [u8], at: usize) -> Step
     requires { ⌜ at ≤ length (now s) ⌝ }
     ensures { λ r. ⌜ stepMeaning r ≡ passAt (fixed (now (word .entry))) (now (s .entry)) at ⌝ }

@@ -22,7 +22,7 @@ use Rattle.dat_format.specs.ExactPieces.{exact-after, exact-sized, exact-counte
 use Rattle.dat_format.specs.ExactSections.{exact-system}
 use Rattle.dat_read.specs.Steps.{stepMeaning}
 use Rattle.dat_read.specs.Summary.{partTo, sectionParts}
-use Rattle.dat_read.specs.Read.{Begun, stopped, gone-on, nothing-there, length-sized, part-is}
+use Rattle.dat_read.specs.Read.{Begun, stopped, gone-on, nothing-there, length-sized, length-counted, part-is}
 use Rattle.dat_read.specs.declared.pieces.Step.{Step}
 use Rattle.dat_read.specs.declared.pieces.Step.the-variants.{Next, Refused}
 use Rattle.dat_read.specs.declared.summary.Part.{Part}
@@ -36,7 +36,7 @@ Piece o w s at m = Got (after w (sized o 8)) (DataFits 8) (λ d. w ++ putSized o
 abbrev pub Counted : {A : Type 0} → Order → Reader A → (A → Type 0) → (A → List ℕ) → List ℕ → ℕ → ℕ → Type 0
 Counted o p F put s at m = Got (counted o p) (CountFits F) (putCounted o put) s at m
 
-pub piece-end : (o : Order) (w s : List ℕ) (at m : ℕ) (g : Piece o w s at m) → m ≡ at + (length w + 8) + length (g .value)
+piece-end : (o : Order) (w s : List ℕ) (at m : ℕ) (g : Piece o w s at m) → m ≡ at + (length w + 8) + length (g .value)
 piece-end o w s at m g = omega (arith, g .place, length-append w (putSized o 8 (g .value)), length-sized o 8 (g .value))
 
 module _ {A : Type 0} (o : Order) (p : Reader A) (F : A → Type 0) (put : A → List ℕ) (s : List ℕ) (at m : ℕ) (g : Counted o p F put s at m) where
@@ -46,8 +46,8 @@ module _ {A : Type 0} (o : Order) (p : Reader A) (F : A → Type 0) (put : A →
   abbrev body : List ℕ
   body = concatMap put (g .value)
 
-  pub counted-end : m ≡ at + 4 + length body
-  counted-end = omega (arith, g .place, length-append (field o 4 count) body, length-field o 4 count)
+  counted-end : m ≡ at + 4 + length body
+  counted-end = omega (arith, g .place, length-counted o put (g .value))
 
   -- the count that stands there
   count-is : (n : ℕ) → n ≡ wordAt o 4 s at → n ≡ count

@@ -105,7 +105,7 @@ worded {s} {at} {m} {v} b h e k =
     let g = got exact-word s b at h wordSeen (wordMeaning v) m (at-case wordStepMeaning e k) in
     record { got = g .0; is = g .1 }
 
-pub word-end : {s : List ℕ} {at m : ℕ} {v : code.Word} → Worded s at v m → m ≡ at + 10
+word-end : {s : List ℕ} {at m : ℕ} {v : code.Word} → Worded s at v m → m ≡ at + 10
 word-end w = omega (arith, w .got .place, word-length (w .got .value))
 
 not-worded : (s : List ℕ) (at : ℕ) {r : WordStep} {n : ℕ} → r ≡ wordstep.Refused n → wordStepMeaning r ≡ seenAt wordSeen word s at

@@ -21,7 +21,7 @@ use Rattle.dat_format.specs.ExactPieces.{exact-times}
 use Rattle.dat_format.specs.ExactTail.{exact-range}
 use Rattle.dat_format.specs.Exactness.{exactness}
 use Rattle.dat_read.specs.Summary.{partTo, kindOf, optionsPart, bodyAt, bodyOf, summary}
-use Rattle.dat_read.specs.Read.{length-sized}
+use Rattle.dat_read.specs.Read.{length-sized, length-counted}
 use Rattle.dat_read.specs.declared.summary.Part.{Part}
 use Rattle.dat_read.specs.declared.summary.Summary.{Summary}
 
@@ -60,17 +60,14 @@ module _ {b : List ℕ} {at : ℕ} (o : Order) where
   counted-back : {A : Type 0} (put : A → List ℕ) (l : List A) → Holds b at (putCounted o put l) → Holds b (at + 4) (concatMap put l)
   counted-back put l h = number-back 4 (length l) h
 
-counted-length : {A : Type 0} (o : Order) (put : A → List ℕ) (l : List A) → length (putCounted o put l) ≡ 4 + length (concatMap put l)
-counted-length o put l = omega (arith, length-append (field o 4 (length l)) (concatMap put l), length-field o 4 (length l))
-
 -- ---- a header that opens b
 
 module _ (b rest : List ℕ) (h : Header) (laid : encode h ++ rest ≡ b) where
   abbrev o : Order
   o = h .opening .order
 
-  abbrev shown : Summary
-  shown = summary (length b) h
+  abbrev parts : Summary
+  parts = summary (length b) h
 
   whole : Holds b 0 (encode h)
   whole = record { rest = rest; laid = sym laid }
@@ -125,28 +122,28 @@ module _ (b rest : List ℕ) (h : Header) (laid : encode h ++ rest ≡ b) where
   event-length = length-sized o 8 (h .sections .headerEvent)
 
   formats-length : length formatList ≡ 4 + length (concatMap (putSized o 8) (h .sections .formats))
-  formats-length = counted-length o (putSized o 8) (h .sections .formats)
+  formats-length = length-counted o (putSized o 8) (h .sections .formats)
 
-  header-page-holds : bytesIn b (shown .sections .«header_page») ≡ h .sections .headerPage
+  header-page-holds : bytesIn b (parts .sections .«header_page») ≡ h .sections .headerPage
   unfolding summary
   header-page-holds =
-      held {at = start + 12 + 8} (shown .sections .«header_page») (sized-back o 8 (front (eventWord ++ (eventData ++ lists)) from-page)) (omega arith) refl
+      held {at = start + 12 + 8} (parts .sections .«header_page») (sized-back o 8 (front (eventWord ++ (eventData ++ lists)) from-page)) (omega arith) refl
 
-  header-event-holds : bytesIn b (shown .sections .«header_event») ≡ h .sections .headerEvent
+  header-event-holds : bytesIn b (parts .sections .«header_event») ≡ h .sections .headerEvent
   unfolding summary
   header-event-holds =
-      held {at = eventAt + 8} (shown .sections .«header_event») (sized-back o 8 (front lists from-event)) (omega (arith, page-length)) refl
+      held {at = eventAt + 8} (parts .sections .«header_event») (sized-back o 8 (front lists from-event)) (omega (arith, page-length)) refl
 
-  formats-hold : bytesIn b (shown .sections .formats) ≡ concatMap (putSized o 8) (h .sections .formats)
+  formats-hold : bytesIn b (parts .sections .formats) ≡ concatMap (putSized o 8) (h .sections .formats)
   unfolding summary
   formats-hold =
-      held {at = formatsAt + 4} (shown .sections .formats) (counted-back o (putSized o 8) (h .sections .formats) (front systemList from-formats))
+      held {at = formatsAt + 4} (parts .sections .formats) (counted-back o (putSized o 8) (h .sections .formats) (front systemList from-formats))
       (omega (arith, page-length, event-length)) refl
 
-  systems-hold : bytesIn b (shown .sections .systems) ≡ concatMap (putSystem o) (h .sections .systems)
+  systems-hold : bytesIn b (parts .sections .systems) ≡ concatMap (putSystem o) (h .sections .systems)
   unfolding summary
   systems-hold =
-      held {at = formatsAt + length formatList + 4} (shown .sections .systems)
+      held {at = formatsAt + length formatList + 4} (parts .sections .systems)
       (counted-back o (putSystem o) (h .sections .systems) (back formatList from-formats)) (omega (arith, page-length, event-length, formats-length)) refl
 
   -- ---- the texts
@@ -185,18 +182,18 @@ module _ (b rest : List ℕ) (h : Header) (laid : encode h ++ rest ≡ b) where
   prints-length : length prints ≡ 4 + length (h .texts .printk)
   prints-length = length-sized o 4 (h .texts .printk)
 
-  kallsyms-holds : bytesIn b (shown .texts .kallsyms) ≡ h .texts .kallsyms
+  kallsyms-holds : bytesIn b (parts .texts .kallsyms) ≡ h .texts .kallsyms
   unfolding summary
-  kallsyms-holds = held {at = texts + 4} (shown .texts .kallsyms) (sized-back o 4 (front (prints ++ (names ++ count)) from-kallsyms)) refl refl
+  kallsyms-holds = held {at = texts + 4} (parts .texts .kallsyms) (sized-back o 4 (front (prints ++ (names ++ count)) from-kallsyms)) refl refl
 
-  printk-holds : bytesIn b (shown .texts .printk) ≡ h .texts .printk
+  printk-holds : bytesIn b (parts .texts .printk) ≡ h .texts .printk
   unfolding summary
-  printk-holds = held {at = printsAt + 4} (shown .texts .printk) (sized-back o 4 (front (names ++ count) from-printk)) (omega (arith, symbols-length)) refl
+  printk-holds = held {at = printsAt + 4} (parts .texts .printk) (sized-back o 4 (front (names ++ count) from-printk)) (omega (arith, symbols-length)) refl
 
-  processes-hold : bytesIn b (shown .texts .processes) ≡ h .texts .processes
+  processes-hold : bytesIn b (parts .texts .processes) ≡ h .texts .processes
   unfolding summary
   processes-hold =
-      held {at = printsAt + length prints + 8} (shown .texts .processes) (sized-back o 8 (front count (back prints from-printk)))
+      held {at = printsAt + length prints + 8} (parts .texts .processes) (sized-back o 8 (front count (back prints from-printk)))
       (omega (arith, symbols-length, prints-length)) refl
 
   -- ---- the options, and the entries or the text
@@ -204,14 +201,14 @@ module _ (b rest : List ℕ) (h : Header) (laid : encode h ++ rest ≡ b) where
   abbrev tail : ℕ
   tail = texts + length (putTexts o (h .texts))
 
-  abbrev before : List ℕ
-  before = putOptions o (h .tail .options)
+  abbrev optionBytes : List ℕ
+  optionBytes = putOptions o (h .tail .options)
 
-  from-tail : Holds b tail (before ++ putEnding o (h .tail .ending))
+  from-tail : Holds b tail (optionBytes ++ putEnding o (h .tail .ending))
   unfolding putTail
   from-tail = back (putTexts o (h .texts)) after-sections
 
-  options-hold : (l : List Opt) → h .tail .options ≡ some l → bytesIn b (shown .options) ≡ putList o l
+  options-hold : (l : List Opt) → h .tail .options ≡ some l → bytesIn b (parts .options) ≡ putList o l
   unfolding summary
   options-hold l e =
       let f : Holds b tail (putWord optionsWord ++ putList o l) =
@@ -225,14 +222,14 @@ module _ (b rest : List ℕ) (h : Header) (laid : encode h ++ rest ≡ b) where
   body-is none = omega arith
   body-is (some l) = omega (arith, length-append (putWord optionsWord) (putList o l))
 
-  from-ending : Holds b (tail + length before) (putEnding o (h .tail .ending))
-  from-ending = back before from-tail
+  from-ending : Holds b (tail + length optionBytes) (putEnding o (h .tail .ending))
+  from-ending = back optionBytes from-tail
 
   module _ (rs : List Range) (e : h .tail .ending ≡ flyrecord rs) where
     from-entries : Holds b bodyPlace (concatMap (putRange o) rs)
     from-entries =
-        moved {at = tail + length before + 10} (body-is (h .tail .options))
-        (back (putWord flyWord) (subst (λ e. Holds b (tail + length before) (putEnding o e)) e from-ending))
+        moved {at = tail + length optionBytes + 10} (body-is (h .tail .options))
+        (back (putWord flyWord) (subst (λ e. Holds b (tail + length optionBytes) (putEnding o e)) e from-ending))
 
     end-is : length (encode h) ≡ bodyPlace + length (concatMap (putRange o) rs)
     unfolding encode putTail
@@ -243,19 +240,19 @@ module _ (b rest : List ℕ) (h : Header) (laid : encode h ++ rest ≡ b) where
           length-append (putOpening (h .opening)) (putSections o (h .sections) ++ later),
           length-append (putSections o (h .sections)) later,
           length-append (putTexts o (h .texts)) (putTail o (h .tail)),
-          length-append before (putEnding o (h .tail .ending)),
+          length-append optionBytes (putEnding o (h .tail .ending)),
           ap (λ e. length (putEnding o e)) e,
           length-append (putWord flyWord) (concatMap (putRange o) rs),
         )
 
-    body-entries : shown .body ≡ partTo bodyPlace (length (encode h))
+    body-entries : parts .body ≡ partTo bodyPlace (length (encode h))
     unfolding summary
     body-entries = ap (λ e. bodyOf (kindOf e) bodyPlace (length (encode h)) (length b)) e
 
-    entries-hold : bytesIn b (shown .body) ≡ concatMap (putRange o) rs
+    entries-hold : bytesIn b (parts .body) ≡ concatMap (putRange o) rs
     entries-hold = ap (bytesIn b) body-entries ∙ held (partTo bodyPlace (length (encode h))) from-entries refl (omega (arith, end-is))
 
-  text-holds : h .tail .ending ≡ latency → encode h ++ bytesIn b (shown .body) ≡ b
+  text-holds : h .tail .ending ≡ latency → encode h ++ bytesIn b (parts .body) ≡ b
   unfolding summary
   text-holds e =
       let end = length (encode h) in

@@ -121,18 +121,18 @@ unfolding summed
 bad-walk s short {w} {n} e h = rw (decode-short s short, not-read (summarySeen (length s)) header s 0 n (at-case walkMeaning e h))
 
 -- what the walk found in a file
-pub record Found (s : List ℕ) (sm : Summary) (end : ℕ) : Type 0 where
+pub record HeaderFound (s : List ℕ) (sm : Summary) (end : ℕ) : Type 0 where
   pub short : length s ≤ limit
   pub got : Got header HeaderFits encode s 0 end
   pub sums : summary (length s) (got .value) ≡ sm
 
-pub found : {s : List ℕ} {sm : Summary} {end : ℕ} → Bytes s → length s ≤ limit → {w : code.Walked}
-    → w ≡ walked.Header sm end → walkMeaning w ≡ seenAt (summarySeen (length s)) header s 0 → Found s sm end
-found {s} {sm} {end} b short e h =
+pub header-found : {s : List ℕ} {sm : Summary} {end : ℕ} → Bytes s → length s ≤ limit → {w : code.Walked}
+    → w ≡ walked.Header sm end → walkMeaning w ≡ seenAt (summarySeen (length s)) header s 0 → HeaderFound s sm end
+header-found {s} {sm} {end} b short e h =
     let g = got exact-header s b 0 (omega arith) (summarySeen (length s)) sm end (at-case walkMeaning e h) in
     record { short = short; got = g .0; sums = g .1 }
 
-module _ {s : List ℕ} {sm : Summary} {end : ℕ} (w : Found s sm end) where
+module _ {s : List ℕ} {sm : Summary} {end : ℕ} (w : HeaderFound s sm end) where
   abbrev h : Header
   h = w .got .value
 

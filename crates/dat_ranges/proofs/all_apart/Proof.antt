@@ -22,9 +22,9 @@ Loop = tie.At-loop Inv-loop μ-loop
 abbrev start : Loop → tie.Start Inv-loop μ-loop
 start h = h .before .before .before .before
 
-entry : (c : tie.After-u64-at2 Inv-loop μ-loop) → let h : Loop = c .before .before .before in
+the-entry : (c : tie.After-u64-at2 Inv-loop μ-loop) → let h : Loop = c .before .before .before in
     let a = start h .args in Entry (a .order) (a .s .now) (h .loop .at) (c .before .u64-at .result) (c .u64-at2 .result)
-entry c = record { offset = c .before .u64-at .ensures; size = c .u64-at2 .ensures }
+the-entry c = record { offset = c .before .u64-at .ensures; size = c .u64-at2 .ensures }
 
 returns : tie.Need-returns Inv-loop μ-loop
 returns c = sym (c .before .in-order .ensures (c .if1 .taken))
@@ -32,12 +32,12 @@ returns c = sym (c .before .in-order .ensures (c .if1 .taken))
 returns-2 : tie.Need-returns-2 Inv-loop μ-loop
 returns-2 c =
     let h : Loop = search in
-    apart-stop (h .loop .inv) (omega arith) (entry (search)) (tested (c .before .all-pass .ensures) (not-true _ (c .if2 .taken)))
+    apart-stop (h .loop .inv) (omega arith) (the-entry (search)) (tested (c .before .all-pass .ensures) (not-true _ (c .if2 .taken)))
 
 loop-again : tie.Need-loop-again Inv-loop μ-loop
 loop-again c =
     let h : Loop = search in
-    apart-on (h .loop .inv) (omega arith) (entry (search)) (tested (c .before .all-pass .ensures) (not-false _ (c .if2 .left)))
+    apart-on (h .loop .inv) (omega arith) (the-entry (search)) (tested (c .before .all-pass .ensures) (not-false _ (c .if2 .left)))
 
 returns-3 : tie.Need-returns-3 Inv-loop μ-loop
 returns-3 c = apart-end (c .before .loop .inv) (omega arith)

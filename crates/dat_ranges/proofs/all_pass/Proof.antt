@@ -26,21 +26,21 @@ start h = h .before .before
 abbrev to-loop : tie.After-u64-at2 Inv-loop μ-loop → Loop
 to-loop c = c .before .before .before
 
-entry : (c : tie.After-u64-at2 Inv-loop μ-loop) → let h = to-loop c in let a = start h .args in
+the-entry : (c : tie.After-u64-at2 Inv-loop μ-loop) → let h = to-loop c in let a = start h .args in
     Entry (a .order) (a .s .now) (h .loop .at) (c .before .u64-at .result) (c .u64-at2 .result)
-entry c = record { offset = c .before .u64-at .ensures; size = c .u64-at2 .ensures }
+the-entry c = record { offset = c .before .u64-at .ensures; size = c .u64-at2 .ensures }
 
 returns : tie.Need-returns Inv-loop μ-loop
 returns c =
     let h : Loop = search in
     let t = testOf (start h .args .test) in
-    all-stop t (h .loop .inv) (omega arith) (entry (search)) (tested (c .before .passes .ensures) (not-true _ (c .if1 .taken)))
+    all-stop t (h .loop .inv) (omega arith) (the-entry (search)) (tested (c .before .passes .ensures) (not-true _ (c .if1 .taken)))
 
 loop-again : tie.Need-loop-again Inv-loop μ-loop
 loop-again c =
     let h : Loop = search in
     let t = testOf (start h .args .test) in
-    all-on t (h .loop .inv) (omega arith) (entry (search)) (tested (c .before .passes .ensures) (not-false _ (c .if1 .left)))
+    all-on t (h .loop .inv) (omega arith) (the-entry (search)) (tested (c .before .passes .ensures) (not-false _ (c .if1 .left)))
 
 returns-2 : tie.Need-returns-2 Inv-loop μ-loop
 returns-2 c = let h : Loop = search in all-end (testOf (start h .args .test)) (h .loop .inv) (omega arith)

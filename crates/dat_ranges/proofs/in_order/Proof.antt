@@ -18,9 +18,9 @@ abbrev μ-loop : tie.MeasureT-loop
 abbrev Loop : Type 0
 Loop = tie.At-loop Inv-loop μ-loop
 
-entry : (c : tie.After-u64-at2 Inv-loop μ-loop) → let h : Loop = c .before .before .before in let a = h .before .before .args in
+the-entry : (c : tie.After-u64-at2 Inv-loop μ-loop) → let h : Loop = c .before .before .before in let a = h .before .before .args in
     Entry (a .order) (a .s .now) (h .loop .at) (c .before .u64-at .result) (c .u64-at2 .result)
-entry c = record { offset = c .before .u64-at .ensures; size = c .u64-at2 .ensures }
+the-entry c = record { offset = c .before .u64-at .ensures; size = c .u64-at2 .ensures }
 
 returns : tie.Need-returns Inv-loop μ-loop
 returns c = λ e. clash (cc)
@@ -31,7 +31,7 @@ loop-again c =
     let u : tie.After-u64-at2 Inv-loop μ-loop = search in
     let d : tie.After-end-after Inv-loop μ-loop = search in
     let r = rangeOf (u .before .u64-at .result) (u .u64-at2 .result) in
-    order-on (h .loop .inv) (omega arith) (entry u) _ (subst (λ z. Leads z (h .loop .last) r) (c .before .end .given .1) (d .end-after .ensures))
+    order-on (h .loop .inv) (omega arith) (the-entry u) _ (subst (λ z. Leads z (h .loop .last) r) (c .before .end .given .1) (d .end-after .ensures))
 
 returns-2 : tie.Need-returns-2 Inv-loop μ-loop
 returns-2 c = λ z. order-end (c .before .loop .inv) (omega arith)

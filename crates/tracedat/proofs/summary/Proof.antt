@@ -2,7 +2,7 @@
 use mathlib.Core.List.{List}
 use Prim.Native.Nat.{ℕ}
 use Rattle.fields.specs.Given.{bytes-given}
-use Rattle.tracedat.proofs.SummaryLaws.{too-long, bad-walk, Found, found, accept-text, bad-range, overlap, accept-entries}
+use Rattle.tracedat.proofs.SummaryLaws.{too-long, bad-walk, HeaderFound, header-found, accept-text, bad-range, overlap, accept-entries}
 use borrow.Author.Needs.{needs}
 use native.Mathlib.Omega.{arith}
 use Rattle.tracedat.proofs.summary.Statement.{statement}
@@ -15,8 +15,8 @@ entry c = c .before .before .before .before
 abbrev file : tie.After-summary → List ℕ
 file c = entry c .before .args .file .now
 
-the-header : (c : tie.After-summary) → let f = c .summary .given .0 in Found (file c) (f .0) (f .1 .0)
-the-header c = found (bytes-given (file c) (entry c .shared-slice-known .given)) (omega arith) (c .summary .given .1) (search)
+the-header : (c : tie.After-summary) → let f = c .summary .given .0 in HeaderFound (file c) (f .0) (f .1 .0)
+the-header c = header-found (bytes-given (file c) (entry c .shared-slice-known .given)) (omega arith) (c .summary .given .1) (search)
 
 returns : tie.Need-returns
 returns c = let q : tie.Start = search in too-long (q .args .file .now) (omega arith)
