@@ -15,7 +15,7 @@ use Rattle.dat_format.specs.Entries.{entries}
 use Rattle.dat_ranges.specs.Ranges.{rangeOf, possible, inOrder, Leads, judged}
 use Rattle.dat_ranges.specs.declared.Later.the-variants.{At}
 use Rattle.dat_ranges.specs.declared.Test.{Test}
-use Rattle.dat_ranges.specs.declared.Verdict.the-variants.{Misplaced}
+use Rattle.dat_ranges.specs.declared.Judgement.the-variants.{Misplaced}
 use Rattle.dat_ranges.proofs.RangeLaws.{order-apart}
 
 -- an entry as it was read
@@ -92,7 +92,7 @@ module _ {o : Order} {s : List ℕ} {n from left at last : ℕ} (w : InOrder o s
   order-on l e end h =
       record { place = omega (arith, w .place); whole = λ q. w .whole (ap (inOrder last) (first-of e left l) ∙ h (entries o s (left - 1) (at + 16)) q) }
 
--- ---- the verdict on entries that are there, or not
+-- ---- the judgement on entries that are there, or not
 
 module _ (t : Test) (o : Order) (s : List ℕ) (n from : ℕ) where
   pub impossible : possible t ≡ false → Misplaced ≡ judged t o s n from

@@ -13,10 +13,10 @@ use borrow.Author.Tests.{le-leb, lt-leb, leb-true, ne-eqb}
 use Rattle.fields.specs.Word.{and-inv}
 use Rattle.dat_format.specs.Header.{Range}
 use Rattle.dat_format.specs.Tests.{aligned, inFile, apart, all, allApart}
-use Rattle.dat_ranges.specs.Ranges.{rangeOf, inOrder, Leads, verdict}
+use Rattle.dat_ranges.specs.Ranges.{rangeOf, inOrder, Leads, judgement}
 use Rattle.dat_ranges.specs.declared.Later.the-variants.{At}
-use Rattle.dat_ranges.specs.declared.Verdict.{Verdict}
-use Rattle.dat_ranges.specs.declared.Verdict.the-variants.{Sound, Misplaced, Overlap}
+use Rattle.dat_ranges.specs.declared.Judgement.{Judgement}
+use Rattle.dat_ranges.specs.declared.Judgement.the-variants.{Sound, Misplaced, Overlap}
 
 pub leb-iff : (a b c d : ℕ) → (a ≤ b → c ≤ d) → (c ≤ d → a ≤ b) → leb a b ≡ leb c d
 leb-iff a b c d f g =
@@ -106,15 +106,15 @@ module _ (last a n : ℕ) where
   pub leads-on : (n ≡ 0 → ⊥) → last ≤ a → (r : ℕ) → r ≡ a + n → Leads (At r) last (rangeOf a n)
   leads-on z h r q rs e = rw (ne-eqb n 0 z, le-leb last a h) (rw q at e)
 
--- ---- the verdict
+-- ---- the judgement
 
 -- what has to be found for each
-abbrev Found : (Range → Bool) → List Range → Verdict → Type 0
+abbrev Found : (Range → Bool) → List Range → Judgement → Type 0
 Found t rs Misplaced = all t rs ≡ false
 Found t rs Overlap = (all t rs ≡ true) × (allApart rs ≡ false)
 Found t rs Sound = (all t rs ≡ true) × (allApart rs ≡ true)
 
-pub verdict-of : (t : Range → Bool) (rs : List Range) (v : Verdict) → Found t rs v → v ≡ verdict t rs
+pub verdict-of : (t : Range → Bool) (rs : List Range) (v : Judgement) → Found t rs v → v ≡ judgement t rs
 verdict-of t rs Misplaced f = rw f
 verdict-of t rs Overlap f = rw (f .0, f .1)
 verdict-of t rs Sound f = rw (f .0, f .1)

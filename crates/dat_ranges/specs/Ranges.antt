@@ -15,8 +15,8 @@ use Rattle.dat_ranges.specs.declared.Later.{Later}
 use Rattle.dat_ranges.specs.declared.Later.the-variants.{At, Not}
 use Rattle.dat_ranges.specs.declared.Test.{Test}
 use Rattle.dat_ranges.specs.declared.Test.the-variants.{InFile, Apart}
-use Rattle.dat_ranges.specs.declared.Verdict.{Verdict}
-use Rattle.dat_ranges.specs.declared.Verdict.the-variants.{Sound, Misplaced, Overlap}
+use Rattle.dat_ranges.specs.declared.Judgement.{Judgement}
+use Rattle.dat_ranges.specs.declared.Judgement.the-variants.{Sound, Misplaced, Overlap}
 
 abbrev pub rangeOf : ℕ → ℕ → Range
 rangeOf a n = record { offset = a; size = n }
@@ -31,15 +31,15 @@ possible (InFile page end total) = leb 1 page
 possible (Apart a n) = true
 
 -- ranges of which one does not pass are misplaced, whether two overlap or not
-abbrev pub verdict : (Range → Bool) → List Range → Verdict
-verdict t rs = cond (all t rs) (cond (allApart rs) Sound Overlap) Misplaced
+abbrev pub judgement : (Range → Bool) → List Range → Judgement
+judgement t rs = cond (all t rs) (cond (allApart rs) Sound Overlap) Misplaced
 
 -- of n entries from `from` on; misplaced where they are not all there, or the test cannot be made
-abbrev pub judged : Test → Order → List ℕ → ℕ → ℕ → Verdict
-judged t o s n from = cond (possible t && leb (from + 16 * n) (length s)) (verdict (testOf t) (entries o s n from)) Misplaced
+abbrev pub judged : Test → Order → List ℕ → ℕ → ℕ → Judgement
+judged t o s n from = cond (possible t && leb (from + 16 * n) (length s)) (judgement (testOf t) (entries o s n from)) Misplaced
 
 pub judged-there : (t : Test) (o : Order) (s : List ℕ) (n from : ℕ) → possible t ≡ true → from + 16 * n ≤ length s
-    → judged t o s n from ≡ verdict (testOf t) (entries o s n from)
+    → judged t o s n from ≡ judgement (testOf t) (entries o s n from)
 judged-there t o s n from e h = rw (e, le-leb (from + 16 * n) (length s) h)
 
 -- ---- ranges in order

@@ -6,7 +6,7 @@ ghost use lib.Dec.{leb};
 ghost use lib.ListN.{length};
 ghost use Rattle.dat_format.specs.Tests.{aligned, inFile, apart, all, allApart};
 ghost use Rattle.dat_format.specs.Entries.{entries};
-ghost use Rattle.dat_ranges.specs.Ranges.{rangeOf, testOf, possible, Leads, verdict, judged};
+ghost use Rattle.dat_ranges.specs.Ranges.{rangeOf, testOf, possible, Leads, judgement, judged};
 use fields::Order;
 
 // Whether an offset is a multiple of the page size.
@@ -170,24 +170,24 @@ fn all_apart(s: &[u8], order: Order, n: u32, from: usize) -> bool
 }
 
 // What n ranges are found to be.
-pub enum Verdict {
+pub enum Judgement {
     Sound,
     Misplaced,
     Overlap,
 }
 
 // Whether each of n entries from `from` on passes, and only then whether two overlap.
-fn judge_in(s: &[u8], order: Order, test: Test, n: u32, from: usize) -> Verdict
+fn judge_in(s: &[u8], order: Order, test: Test, n: u32, from: usize) -> Judgement
     requires { ⌜ (possible test ≡ true) × (from + 16 * n ≤ length (now s)) ⌝ }
-    ensures { λ r. ⌜ r ≡ verdict (testOf test) (entries order (now (s .entry)) n from) ⌝ }
+    ensures { λ r. ⌜ r ≡ judgement (testOf test) (entries order (now (s .entry)) n from) ⌝ }
 {
     if all_pass(s, order, test, n, from) {
         if all_apart(s, order, n, from) {
-            return Verdict::Sound;
+            return Judgement::Sound;
         }
-        return Verdict::Overlap;
+        return Judgement::Overlap;
     }
-    Verdict::Misplaced
+    Judgement::Misplaced
 }
 
 // Whether a test can be made: no offset is a multiple of a page size of 0.
@@ -210,15 +210,15 @@ fn are_there(total: usize, n: u32, from: usize) -> bool
     16 * (n as usize) <= total - from
 }
 
-// The verdict on n entries from `from` on; misplaced where they are not all there, or the test cannot be made.
-pub fn judge(s: &[u8], order: Order, test: Test, n: u32, from: usize) -> Verdict
+// The judgement on n entries from `from` on; misplaced where they are not all there, or the test cannot be made.
+pub fn judge(s: &[u8], order: Order, test: Test, n: u32, from: usize) -> Judgement
     ensures { λ r. ⌜ r ≡ judged test order (now (s .entry)) n from ⌝ }
 {
     if !is_possible(test) {
-        return Verdict::Misplaced;
+        return Judgement::Misplaced;
     }
     if !are_there(s.len(), n, from) {
-        return Verdict::Misplaced;
+        return Judgement::Misplaced;
     }
     judge_in(s, order, test, n, from)
 }

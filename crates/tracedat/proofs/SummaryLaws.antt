@@ -29,10 +29,10 @@ use Rattle.dat_walk.specs.Steps.{walkMeaning}
 use Rattle.dat_walk.specs.Parts.{entries-are}
 use Rattle.dat_walk.specs.declared.Walked as code
 use Rattle.dat_walk.specs.declared.Walked.the-variants as walked
-use Rattle.dat_ranges.specs.Ranges.{rangeOf, verdict, judged, judged-there}
+use Rattle.dat_ranges.specs.Ranges.{rangeOf, judgement, judged, judged-there}
 use Rattle.dat_ranges.specs.declared.Test.the-variants.{InFile}
-use Rattle.dat_ranges.specs.declared.Verdict.{Verdict}
-use Rattle.dat_ranges.specs.declared.Verdict.the-variants.{Sound, Misplaced, Overlap}
+use Rattle.dat_ranges.specs.declared.Judgement.{Judgement}
+use Rattle.dat_ranges.specs.declared.Judgement.the-variants.{Sound, Misplaced, Overlap}
 use Rattle.tracedat.specs.Questions.{summed, summaryMeaning, cpuRange}
 use Rattle.tracedat.specs.declared.SummaryAnswer.{SummaryAnswer}
 use Rattle.tracedat.specs.declared.SummaryAnswer.the-variants as answer
@@ -92,14 +92,14 @@ pub too-long : (s : List ℕ) → limit < length s → refused tooLong ≡ summe
 unfolding summed decode
 too-long s h = rw (lt-leb (length s) limit h)
 
--- the answer that a verdict stands for
-answerOf : Verdict → Header → Answer Header
+-- the answer that a judgement stands for
+answerOf : Judgement → Header → Answer Header
 answerOf Sound h = accepted h
 answerOf Misplaced h = refused badRange
 answerOf Overlap h = refused rangesOverlap
 
 checked-is : (total : ℕ) (h : Header)
-    → checked total h ≡ answerOf (verdict (inFile (h .opening .page) (length (encode h)) total) (ranges (h .tail .ending))) h
+    → checked total h ≡ answerOf (judgement (inFile (h .opening .page) (length (encode h)) total) (ranges (h .tail .ending))) h
 unfolding checked answerOf
 checked-is total h =
     let rs = ranges (h .tail .ending) in
@@ -143,13 +143,13 @@ module _ {s : List ℕ} {sm : Summary} {end : ℕ} (w : HeaderFound s sm end) wh
   end-is = omega (arith, w .got .place)
 
   -- what the header's ranges are judged to be
-  abbrev checks : Verdict
-  checks = verdict (inFile (h .opening .page) (length (encode h)) (length s)) (ranges (h .tail .ending))
+  abbrev checks : Judgement
+  checks = judgement (inFile (h .opening .page) (length (encode h)) (length s)) (ranges (h .tail .ending))
 
   abbrev summedAs : Answer Header → Answer Summary
   summedAs x = next x (λ h. accepted (summary (length s) h))
 
-  answers : (v : Verdict) → v ≡ checks → summedAs (answerOf v h) ≡ summed s
+  answers : (v : Judgement) → v ≡ checks → summedAs (answerOf v h) ≡ summed s
   unfolding summed
   answers v e =
       let d : decode s ≡ answerOf checks h =
@@ -161,21 +161,21 @@ module _ {s : List ℕ} {sm : Summary} {end : ℕ} (w : HeaderFound s sm end) wh
   sound e = ap accepted (sym (w .sums)) ∙ answers Sound e
 
   pub accept-text : sm .ending ≡ Latency → accepted sm ≡ summed s
-  accept-text k = sound (sym (ap (λ e. verdict (inFile (h .opening .page) (length (encode h)) (length s)) (ranges e)) (is-text summarised k)))
+  accept-text k = sound (sym (ap (λ e. judgement (inFile (h .opening .page) (length (encode h)) (length s)) (ranges e)) (is-text summarised k)))
 
   module _ (k : sm .ending ≡ Flyrecord) where
-    abbrev Judged : Verdict → Type 0
+    abbrev Judged : Judgement → Type 0
     Judged v = v ≡ judged (InFile (sm .flags .page) end (length s)) (sm .flags .order) s (sm .texts .cpus) (sm .body .place)
 
-    checks-is : {v : Verdict} → Judged v → v ≡ checks
+    checks-is : {v : Judgement} → Judged v → v ≡ checks
     checks-is e =
         let test = InFile (sm .flags .page) end (length s) in
         let possible = le-leb 1 (sm .flags .page) (page-some summarised) in
         e ∙ judged-there test (sm .flags .order) s (sm .texts .cpus) (sm .body .place) possible (room summarised k)
-        ∙ ap (verdict (inFile (sm .flags .page) end (length s))) (stored-are summarised k .1)
-        ∙ ap₂ (λ p n. verdict (inFile p n (length s)) (ranges (h .tail .ending))) (sym (page-same summarised)) (sym end-is)
+        ∙ ap (judgement (inFile (sm .flags .page) end (length s))) (stored-are summarised k .1)
+        ∙ ap₂ (λ p n. judgement (inFile p n (length s)) (ranges (h .tail .ending))) (sym (page-same summarised)) (sym end-is)
 
-    module _ {v : Verdict} where
+    module _ {v : Judgement} where
       pub bad-range : v ≡ Misplaced → Judged v → refused badRange ≡ summed s
       unfolding answerOf
       bad-range f e = answers Misplaced (sym f ∙ checks-is e)

@@ -1,8 +1,8 @@
 // trace.dat, version 6: the summary of a file's header, and where a CPU's data stands.
 ghost use mathlib.Core.Path.{_≡_};
 ghost use Rattle.tracedat.specs.Questions.{summaryMeaning, summed, rangeMeaning, cpuRange};
+use dat_ranges::Judgement;
 use dat_ranges::Test;
-use dat_ranges::Verdict;
 use dat_read::summary::EndingKind;
 use dat_read::summary::Summary;
 use dat_walk::Walked;
@@ -41,9 +41,9 @@ pub fn summary(file: &[u8]) -> SummaryAnswer
                         total: file.len() as u64,
                     };
                     match dat_ranges::judge(file, order, test, n, place) {
-                        Verdict::Misplaced => SummaryAnswer::Refused(BAD_RANGE),
-                        Verdict::Overlap => SummaryAnswer::Refused(RANGES_OVERLAP),
-                        Verdict::Sound => SummaryAnswer::Accepted(summary),
+                        Judgement::Misplaced => SummaryAnswer::Refused(BAD_RANGE),
+                        Judgement::Overlap => SummaryAnswer::Refused(RANGES_OVERLAP),
+                        Judgement::Sound => SummaryAnswer::Accepted(summary),
                     }
                 }
             }
