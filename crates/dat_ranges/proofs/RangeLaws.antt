@@ -114,7 +114,7 @@ Found t rs Misplaced = all t rs ≡ false
 Found t rs Overlap = (all t rs ≡ true) × (allApart rs ≡ false)
 Found t rs Sound = (all t rs ≡ true) × (allApart rs ≡ true)
 
-pub verdict-of : (t : Range → Bool) (rs : List Range) (v : Judgement) → Found t rs v → v ≡ judgement t rs
-verdict-of t rs Misplaced f = rw f
-verdict-of t rs Overlap f = rw (f .0, f .1)
-verdict-of t rs Sound f = rw (f .0, f .1)
+pub judgement-of : (t : Range → Bool) (rs : List Range) (v : Judgement) → Found t rs v → v ≡ judgement t rs
+judgement-of t rs Misplaced f = rw f
+judgement-of t rs Overlap f = rw (f .0, f .1)
+judgement-of t rs Sound f = rw (f .0, f .1)

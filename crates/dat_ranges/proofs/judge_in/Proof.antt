@@ -5,7 +5,7 @@ use Rattle.dat_format.specs.Header.{Range}
 use Rattle.dat_format.specs.Entries.{entries}
 use Rattle.dat_ranges.specs.Ranges.{testOf}
 use Rattle.dat_format.specs.Tests.{tested}
-use Rattle.dat_ranges.proofs.RangeLaws.{verdict-of}
+use Rattle.dat_ranges.proofs.RangeLaws.{judgement-of}
 use borrow.Author.Needs.{needs}
 use Rattle.dat_ranges.proofs.judge_in.Statement.{statement}
 use Rattle.dat_ranges.proofs.judge_in.Tie as tie
@@ -17,13 +17,13 @@ abbrev judged : tie.Start → List Range
 judged i = entries (i .args .order) (i .args .s .now) (i .args .n) (i .args .from)
 
 returns : tie.Need-returns
-returns c = let i : tie.Start = search in verdict-of (test i) (judged i) _ (search (tested))
+returns c = let i : tie.Start = search in judgement-of (test i) (judged i) _ (search (tested))
 
 returns-2 : tie.Need-returns-2
-returns-2 c = let i : tie.Start = search in verdict-of (test i) (judged i) _ (search (tested))
+returns-2 c = let i : tie.Start = search in judgement-of (test i) (judged i) _ (search (tested))
 
 returns-3 : tie.Need-returns-3
-returns-3 c = let i : tie.Start = search in verdict-of (test i) (judged i) _ (search (tested))
+returns-3 c = let i : tie.Start = search in judgement-of (test i) (judged i) _ (search (tested))
 
 pub judge-in-spec : {M : Type 1} → statement M
 judge-in-spec = tie.close (tie.spec (λ c κs. search needs) (λ c κs. search needs) returns returns-2 returns-3)
