@@ -40,7 +40,8 @@ abbrev pub before : Format → Selection → List ℕ → ℕ → ℕ
 before f c b n = countOf c n (decode f b)
 
 module _ (f : Format) (c : Selection) (b d : List ℕ) where
-  -- frame n of the file b stands in d, a cut of b by c: the cut's frame k has the same bytes, head and data, k being the number of frames before n that c selects
+  -- frame n of the file b stands in d, a cut of b by c: the cut's frame k has the same bytes, head and data,
+  -- k being the number of frames before n that c selects
   pub record StandsIn (n : ℕ) : Type 0 where
     pub bytes : List ℕ
     pub there : nth (framesOf f (decode f b)) n ≡ accepted bytes

@@ -11,11 +11,8 @@ use native.Mathlib.Omega.{arith}
 use Rattle.gdb_pair.proofs.pair_place.Statement.{statement}
 use Rattle.gdb_pair.proofs.pair_place.Tie as tie
 
-abbrev to-start : tie.After-a → tie.Start
-to-start c = c .before .before .before .before .before
-
 -- the pair as it was read
-paired : (c : tie.After-a) → let a = to-start c .args in
+paired : (c : tie.After-a) → let start : tie.Start = search in let a = start .args in
     Paired (a .settings) (a .first .now) (a .second .now) (openedMeaning (c .a .given .0 .0)) (openedMeaning (c .a .given .0 .1 .0))
 paired c =
     let f : tie.After-shared-slice-known = search in
