@@ -23,7 +23,7 @@ use Rattle.gdb_format.specs.declared.Format.{Format}
 use Rattle.gdb_read.specs.Steps.{Row, headSeen, frameSeen, headMeaning, framesEnd, Summary}
 use Rattle.gdb_frames.specs.Places.{linesAt, framesAt, partNamed}
 use Rattle.gdb_frames.specs.Questions.{asked, frameRow, dataIn, frameData, lineAt, linePlace}
-use Rattle.gdb_frames.specs.Nth.{nthHead, shownNth, nth-placed, nthLine, IsLine, nth-line}
+use Rattle.gdb_frames.specs.Nth.{nthHead, shownNth, nth-placed, foundBy, nth-found, nthLine, IsLine, nth-line}
 use Rattle.gdb_frames.specs.declared.LocatedAnswer.{LocatedAnswer}
 use Rattle.gdb_frames.specs.declared.LocatedAnswer.the-variants as located
 use Rattle.gdb_frames.specs.File.{File, WasRead, frames-behind, frames-front, start-within, lines-behind, told}
@@ -58,51 +58,16 @@ pub head-front : (f : Format) (b : List ℕ) (t : Trace) (n : ℕ) → File f b 
     → nthHead f (take (framesEnd f t) b) n (length (opening (t .lines))) ≡ shownNth (frameSeen f) (putFrame f) (nth (framesAt f t) n)
 head-front f b t n i = ap (λ s. nthHead f s n (length (opening (t .lines)))) (frames-front f b t i) ∙ head-nth f b t n i
 
-module _ {A C : Type 0} (view : ℕ → A → C) (put : A → List ℕ) where
-  pub shown-none : (xs : List (ℕ × A)) (n : ℕ) → accepted none ≡ shownNth view put (nth xs n) → nth xs n ≡ refused notFound
-  shown-none xs n e = by (nth xs n) refl e
-    where
-      by : (x : Answer (ℕ × A)) → nth xs n ≡ x → accepted none ≡ shownNth view put x → x ≡ refused notFound
-      by (accepted r) q e = let z : _≡_ {A = Option (C × ℕ)} none (some (view (r .0) (r .1), r .0 + length (put (r .1)))) = accepted-one e in clash (cc)
-      by (refused k) q e = ap refused (nth-refused xs n k q)
-
-  pub shown-some : (v : C) (m : ℕ) (x : Answer (ℕ × A)) → accepted (some (v, m)) ≡ shownNth view put x
-      → (r : ℕ × A) × (x ≡ accepted r) × (v ≡ view (r .0) (r .1)) × (m ≡ r .0 + length (put (r .1)))
-  shown-some v m (accepted r) e = let q = same e in (r, refl, q .0, q .1)
-    where
-      same : {a c : C} {b d : ℕ} → _≡_ {A = Answer (Option (C × ℕ))} (accepted (some (a, b))) (accepted (some (c, d))) → (a ≡ c) × (b ≡ d)
-      same {a} {c} {b} {d} e = let q : _≡_ {A = C × ℕ} (a, b) (c, d) = cc in (ap (λ r. r .0) q, ap (λ r. r .1) q)
-  shown-some v m (refused k) e = let z : _≡_ {A = Option (C × ℕ)} (some (v, m)) none = accepted-one e in clash (cc)
-
-  pub shown-never : {X : Type 0} (k : ℕ) (x : Answer (ℕ × A)) → refused k ≡ shownNth view put x → X
-  shown-never k (accepted r) e = never e
-  shown-never k (refused n) e = never e
-
-pub located-row : (s : Settings) (b : List ℕ) (f : Format) (t : Trace) (n a : ℕ) (r : Frame) → read s b ≡ accepted (f, t)
-    → nth (framesAt f t) n ≡ accepted (a, r)
-    → accepted (f, (registerSize f (t .lines), frameSeen f a r)) ≡ asked s b (frameLocated n)
-located-row s b f t n a r e g = rw (e, g)
-
-module _ {s : Settings} {b : List ℕ} {m : Summary} (w : WasRead s b m) (n : ℕ) where
-  pub located-some : (v : Row) (k : ℕ) → accepted (some (v, k)) ≡ nthHead (m .format) (take (m .end) b) n (m .start)
-      → accepted (m .format, (m .size, v)) ≡ asked s b (frameLocated n)
-  located-some v k =
-      told s b (w .bytes) m (w .summed) (λ m. accepted (some (v, k)) ≡ nthHead (m .format) (take (m .end) b) n (m .start)
-      → accepted (m .format, (m .size, v)) ≡ asked s b (frameLocated n))
-      (λ f t r i g.
-      let q = shown-some (frameSeen f) (putFrame f) v k (nth (framesAt f t) n) (g ∙ head-front f b t n i) in
-      ap (λ z. accepted (f, (registerSize f (t .lines), z))) (q .2) ∙ located-row s b f t n (q .0 .0) (q .0 .1) r (q .1))
-
-  pub located-none : accepted none ≡ nthHead (m .format) (take (m .end) b) n (m .start) → refused notFound ≡ asked s b (frameLocated n)
-  located-none =
-      told s b (w .bytes) m (w .summed) (λ m. accepted none ≡ nthHead (m .format) (take (m .end) b) n (m .start)
-      → refused notFound ≡ asked s b (frameLocated n))
-      (λ f t r i g. rw (r, shown-none (frameSeen f) (putFrame f) (framesAt f t) n (g ∙ head-front f b t n i)))
-
-  pub located-never : {X : Type 0} (k : ℕ) → refused k ≡ nthHead (m .format) (take (m .end) b) n (m .start) → X
-  located-never {X} k =
-      told s b (w .bytes) m (w .summed) (λ m. refused k ≡ nthHead (m .format) (take (m .end) b) n (m .start) → X)
-      (λ f t r i g. shown-never (frameSeen f) (putFrame f) k (nth (framesAt f t) n) (g ∙ head-front f b t n i))
+-- the head that the walk met, with what is needed to read its blocks
+pub located-is : {s : Settings} {b : List ℕ} {m : Summary} → WasRead s b m → (n : ℕ) {x : Answer (Option (Row × ℕ))}
+    → x ≡ nthHead (m .format) (take (m .end) b) n (m .start) → next x (foundBy (λ v. (m .format, (m .size, v)))) ≡ asked s b (frameLocated n)
+located-is {s} {b} {m} w n {x} =
+    told s b (w .bytes) m (w .summed)
+    (λ m. x ≡ nthHead (m .format) (take (m .end) b) n (m .start) → next x (foundBy (λ v. (m .format, (m .size, v)))) ≡ asked s b (frameLocated n))
+    (λ f t r i e.
+    ap (λ y. next y (foundBy (rowIn f t))) (e ∙ head-front f b t n i) ∙ nth-found (frameSeen f) (putFrame f) (rowIn f t) (framesAt f t) n
+    ∙ sym (next-assoc (nth (framesAt f t) n) (λ r. accepted (frameSeen f (r .0) (r .1))) (λ v. accepted (rowIn f t v)))
+    ∙ ap (λ y. next y (λ r. frameLocated n (r .0) (r .1))) (sym r))
 
 -- the data of frame n are what its row says
 frame-data-in : (x : Answer (Format × Trace)) (n : ℕ)

@@ -15,7 +15,7 @@ use Rattle.fields.specs.Lists.{concatMap, Each}
 use Rattle.fields.specs.Answer.{Answer, accepted, refused, next}
 use Rattle.fields.specs.Reader.{Reader, stepAt}
 use Rattle.fields.specs.At.{step-none, step-read}
-use Rattle.fields.specs.Element.{nth}
+use Rattle.fields.specs.Element.{nth, nth-refused}
 use Rattle.gdb_format.specs.Trace.{putLine}
 use Rattle.gdb_format.specs.Layout.{NoEnd}
 use Rattle.gdb_format.specs.Decode.{frameHead}
@@ -58,6 +58,19 @@ nthHead f s n at = nthAt headSeen (frameHead f) s n at
 abbrev pub shownNth : {A C : Type 0} → (ℕ → A → C) → (A → List ℕ) → Answer (ℕ × A) → Answer (Option (C × ℕ))
 shownNth view put (accepted r) = accepted (some (view (r .0) (r .1), r .0 + length (put (r .1))))
 shownNth view put (refused n) = accepted none
+
+-- what `g` makes of the element that a walk met; 12 where it met none
+abbrev pub foundBy : {C D : Type 0} → (C → D) → Option (C × ℕ) → Answer D
+foundBy g none = refused notFound
+foundBy g (some r) = accepted (g (r .0))
+
+pub nth-found : {A C D : Type 0} (view : ℕ → A → C) (put : A → List ℕ) (g : C → D) (xs : List (ℕ × A)) (n : ℕ)
+    → next (shownNth view put (nth xs n)) (foundBy g) ≡ next (nth xs n) (λ r. accepted (g (view (r .0) (r .1))))
+nth-found {A} view put g xs n = by (nth xs n) refl
+  where
+    by : (x : Answer (ℕ × A)) → nth xs n ≡ x → next (shownNth view put x) (foundBy g) ≡ next x (λ r. accepted (g (view (r .0) (r .1))))
+    by (accepted r) e = refl
+    by (refused k) e = ap refused (sym (nth-refused xs n k e))
 
 -- xs stand in s from a place on, each as `put` lays it out, and p reads x as h x
 module _ {A B C : Type 0} (view : ℕ → B → C) (p : Reader B) (h : A → B) (F : A → Type 0) (put : A → List ℕ)

@@ -17,6 +17,7 @@ use Rattle.gdb_format.specs.declared.Format.{Format}
 use Rattle.gdb_read.specs.Steps.{Row}
 use Rattle.gdb_frames.specs.Places.{part, partLength}
 use Rattle.gdb_frames.specs.Questions.{asked, dataIn, frameData}
+use Rattle.gdb_frames.specs.Nth.{foundBy}
 use Rattle.gdb_blocks.specs.Search.{variableAt}
 use Rattle.gdb_join.specs.Join.{joinOf}
 use Rattle.gdb_pair.specs.declared.PairPlace.{PairPlace}
@@ -64,9 +65,5 @@ unfoldable pub pairVariable : Settings → List ℕ → List ℕ → ℕ → ℕ
 pairVariable s a b n v = next (joinOf s a b) (λ c. asked s c (variableAt n v))
 
 -- the data of the frame that a walk over heads found
-abbrev pub placeIn : Option (Row × ℕ) → Answer (ℕ × ℕ)
-placeIn none = refused notFound
-placeIn (some r) = accepted (dataIn (r .0))
-
 abbrev pub foundPlace : Answer (Option (Row × ℕ)) → Answer (ℕ × ℕ)
-foundPlace x = next x placeIn
+foundPlace x = next x (foundBy dataIn)

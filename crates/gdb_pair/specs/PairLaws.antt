@@ -10,7 +10,7 @@ use lib.Dec.{ltb}
 use borrow.Author.Tests.{ltb-true, ltb-false, lt-ltb, le-ltb}
 use Rattle.fields.specs.Lists.{part-front}
 use Rattle.fields.specs.Number.{Bytes}
-use Rattle.fields.specs.Answer.{Answer, accepted, refused, next, next-inv, never, accepted-one}
+use Rattle.fields.specs.Answer.{Answer, accepted, refused, next, next-inv, next-assoc, never, accepted-one}
 use Rattle.gdb_format.specs.Trace.{Frame, Trace, opening, putFrame, dataOf}
 use Rattle.gdb_format.specs.Settings.{settingsOf}
 use Rattle.gdb_format.specs.Decode.{read}
@@ -20,10 +20,10 @@ use Rattle.gdb_format.specs.declared.Format.{Format}
 use Rattle.gdb_read.specs.Steps.{framesEnd, Summary, summaryOf, frameSeen}
 use Rattle.gdb_frames.specs.Places.{framesAt, part, partNamed}
 use Rattle.gdb_frames.specs.Questions.{asked, dataIn, frameData}
-use Rattle.gdb_frames.specs.Nth.{nthHead, shownNth}
+use Rattle.gdb_frames.specs.Nth.{nthHead, nth-found}
 use Rattle.gdb_frames.specs.File.{File}
 use Rattle.gdb_frames.specs.PlaceLaws.{placed-nth, placed-is, InFile, handed, frame-within, data-there}
-use Rattle.gdb_frames.specs.Located.{head-front, shown-none}
+use Rattle.gdb_frames.specs.Located.{head-front}
 use Rattle.gdb_blocks.specs.Earliest.{earliest}
 use Rattle.gdb_blocks.specs.Search.{variableAt}
 use Rattle.gdb_blocks.specs.Held.{valueOf, heldIn}
@@ -69,18 +69,11 @@ pair-told {s} {a} {b} {m} {k} w P base =
 
 -- ---- frame n
 
-found-in : (f : Format) (t : Trace) (n : ℕ) → foundPlace (shownNth (frameSeen f) (putFrame f) (nth (framesAt f t) n)) ≡ frameData n f t
-found-in f t n = by (nth (framesAt f t) n) refl
-  where
-    by : (x : Answer (ℕ × Frame)) → nth (framesAt f t) n ≡ x
-        → foundPlace (shownNth (frameSeen f) (putFrame f) x) ≡ next (next x (λ r. accepted (frameSeen f (r .0) (r .1)))) (λ v. accepted (dataIn v))
-    by (accepted r) e = refl
-    by (refused j) e =
-        ap refused (refused-same (sym e ∙ shown-none (frameSeen f) (putFrame f) (framesAt f t) n (ap (shownNth (frameSeen f) (putFrame f)) (sym e))))
-
 found-data : (f : Format) (b : List ℕ) (t : Trace) (n : ℕ) → File f b t
     → foundPlace (nthHead f (take (framesEnd f t) b) n (length (opening (t .lines)))) ≡ frameData n f t
-found-data f b t n i = ap foundPlace (head-front f b t n i) ∙ found-in f t n
+found-data f b t n i =
+    ap foundPlace (head-front f b t n i) ∙ nth-found (frameSeen f) (putFrame f) dataIn (framesAt f t) n
+    ∙ sym (next-assoc (nth (framesAt f t) n) (λ r. accepted (frameSeen f (r .0) (r .1))) (λ v. accepted (dataIn v)))
 
 module _ (s : Settings) (a b c : List ℕ) (f : Format) (t u : Trace) (i : Joined s a b c f t u) (n : ℕ) where
   pub place-is : pairPlace s a b n ≡ sided f n t u

@@ -2,10 +2,10 @@
 -- Assumes nothing.
 use mathlib.Core.Path.{_≡_, ap, _∙_}
 use lib.ListN.{take}
-use Rattle.gdb_read.specs.Steps.{headMeaning, frameMeaning, readingMeaning, openedMeaning}
+use Rattle.gdb_read.specs.Steps.{frameMeaning, readingMeaning, openedMeaning}
 use Rattle.gdb_frames.specs.File.{WasRead, read-given, asked-refused}
 use Rattle.gdb_frames.specs.Nth.{nthHead}
-use Rattle.gdb_frames.specs.Located.{frameLocated, located-some, located-none, located-never}
+use Rattle.gdb_frames.specs.Located.{frameLocated, located-is}
 use Rattle.fields.specs.Given.{at-case}
 use borrow.Author.Needs.{needs}
 use Rattle.gdb_frames.proofs.locate.Statement.{statement}
@@ -37,20 +37,15 @@ returns c =
 
 returns-2 : tie.Need-returns-2
 returns-2 c =
-    let start : tie.Start = search in
-    let g = c .before .head .given in
-    located-some (was-read (search)) (start .args .n) (headMeaning (g .0 .0)) (g .0 .1 .0) (at-case frameMeaning (g .1) (walked (search)))
+    let start : tie.Start = search in located-is (was-read (search)) (start .args .n) (at-case frameMeaning (c .before .head .given .1) (walked (search)))
 
 returns-3 : tie.Need-returns-3
 returns-3 c =
-    let start : tie.Start = search in
-    located-none (was-read (search)) (start .args .n) (at-case frameMeaning (c .enum-told .given .1) (walked (search)))
+    let start : tie.Start = search in located-is (was-read (search)) (start .args .n) (at-case frameMeaning (c .enum-told .given .1) (walked (search)))
 
 returns-4 : tie.Need-returns-4
 returns-4 c =
-    let start : tie.Start = search in
-    let g = c .before .k2 .given in
-    located-never (was-read (search)) (start .args .n) (g .0 .0) (at-case frameMeaning (g .1) (walked (search)))
+    let start : tie.Start = search in located-is (was-read (search)) (start .args .n) (at-case frameMeaning (c .before .k2 .given .1) (walked (search)))
 
 pub locate-spec : {M : Type 1} → statement M
 locate-spec =
