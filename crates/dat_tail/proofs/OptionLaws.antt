@@ -12,7 +12,7 @@ use borrow.Author.Tests.{ne-eqb}
 use Rattle.refusals.specs.Refusal.{fieldPastFile}
 use Rattle.fields.specs.Number.{Bytes, number, wordAt, word-in}
 use Rattle.fields.specs.Answer.{accepted, refused, next, next-cong}
-use Rattle.fields.specs.Reader.{Reader, give, shown, passAt, num}
+use Rattle.fields.specs.Reader.{Reader, give, seenTo, passAt, num}
 use Rattle.fields.specs.Takes.{Takes, shorter, takes-bytes, takes-then, takes-num, takes-less}
 use Rattle.fields.specs.At.{num-short, num-at, place-of}
 use Rattle.fields.specs.Got.{shown-of}
@@ -94,7 +94,7 @@ module _ (o : Order) {s : List ℕ} {from at : ℕ} (w : Going (options o) s fro
           let more = optionsF (length (drop at s)) o (drop m s) in
           let f : optionsF (length (drop m s)) o (drop m s) ≡ more =
           same-fuel o (length (drop m s)) (length (drop at s)) (drop m s) (le-refl (length (drop m s))) (omega (arith, length-drop m s, length-drop at s)) in
-          ap (shown (λ a. tt) (length s)) f
+          ap (seenTo (λ a. tt) (length s)) f
           ∙ rw (options-eq o (drop at s), num-at s at o 2 fieldPastFile (w .inside) l, ← type-is, ne-eqb t 0 z, g .reads)
           (sym (shown-of {B = List Opt} (λ a. tt) (length s) more (λ l. record { type = t; body = g .value } ∷ l)))
 

@@ -12,7 +12,7 @@ use Rattle.fields.specs.Lists.{Each}
 use Rattle.fields.specs.Number.{Bytes}
 use Rattle.fields.specs.Word.{starts}
 use Rattle.fields.specs.Answer.{Answer, accepted, refused, never, accepted-inj, next}
-use Rattle.fields.specs.Reader.{shown, seenAt, passAt}
+use Rattle.fields.specs.Reader.{seenTo, seenAt, passAt}
 use Rattle.fields.specs.At.{bytes-short, bytes-at, place-of}
 use Rattle.fields.specs.Given.{at-case}
 use Rattle.fields.specs.Got.{Got, not-read, got, shown-of}
@@ -118,9 +118,9 @@ module _ (o : Order) (n : ℕ) (p : Part) (s : List ℕ) (at : ℕ) (h : at ≤ 
   abbrev TailEnds : code.Word → Answer (TailParts × ℕ) → Type 0
   TailEnds v x = x ≡ seenAt (endingParts p) (ending o n (wordMeaning v)) s at
 
-  entries-shown : (m : ℕ) (x : Answer (List Range × List ℕ)) → _≡_ {A = Answer (Unit {0} × ℕ)} (accepted (tt, m)) (shown (λ a. tt) (length s) x)
+  entries-shown : (m : ℕ) (x : Answer (List Range × List ℕ)) → _≡_ {A = Answer (Unit {0} × ℕ)} (accepted (tt, m)) (seenTo (λ a. tt) (length s) x)
       → accepted (endingParts p at (flyrecord []), m)
-      ≡ shown (endingParts p at) (length s) (next {B = Ending × List ℕ} x (λ r. accepted (flyrecord (r .0), r .1)))
+      ≡ seenTo (endingParts p at) (length s) (next {B = Ending × List ℕ} x (λ r. accepted (flyrecord (r .0), r .1)))
   entries-shown m (accepted r) f = ap (λ i. accepted (endingParts p at (flyrecord []), i)) ((accepted-inj f) .1)
   entries-shown m (refused k) f = never (sym f)
 
@@ -171,7 +171,7 @@ module _ (o : Order) (n : ℕ) (s : List ℕ) (at : ℕ) where
     with-options {e} {v} w {p} ep {x} k =
         let place : e ≡ at + size + 10 = omega (arith, g .place, word-end w) in
         let rest = ending o n (wordMeaning v) (drop e s) in
-        k ∙ ap₂ (λ p i. shown (endingParts p i) (length s) rest) (part-is at m size p ep (g .place)) place
+        k ∙ ap₂ (λ p i. seenTo (endingParts p i) (length s) rest) (part-is at m size p ep (g .place)) place
         ∙ sym (shown-of (tailPartsAfter o at) (length s) rest (λ z. record { options = some (g .value); ending = z }))
         ∙ rw (g .reads, w .got .reads, w .is)
 
@@ -197,16 +197,16 @@ module _ (o : Order) (n : ℕ) (s : List ℕ) (at : ℕ) where
     abbrev none-before : Answer (Ending × List ℕ) → Answer (Tail × List ℕ)
     none-before y = next y (λ r. accepted (record { options = none; ending = r .0 }, r .1))
 
-    bare : (u : Word) (x : Answer (TailParts × ℕ)) → Bare u x → x ≡ shown (tailParts o at) (length s) (none-before (ending o n u (drop m s)))
+    bare : (u : Word) (x : Answer (TailParts × ℕ)) → Bare u x → x ≡ seenTo (tailParts o at) (length s) (none-before (ending o n u (drop m s)))
     bare u x k =
-        k ∙ ap (λ i. shown (endingParts (part 0 0) i) (length s) (ending o n u (drop m s))) (word-end w)
+        k ∙ ap (λ i. seenTo (endingParts (part 0 0) i) (length s) (ending o n u (drop m s))) (word-end w)
         ∙ sym (shown-of (tailParts o at) (length s) (ending o n u (drop m s)) (λ z. record { options = none; ending = z }))
 
     module _ {x : Answer (TailParts × ℕ)} where
       pub has-options : v ≡ Options → x ≡ seenAt (tailPartsAfter o) (tailAfter o n optionsWord) s m → Tails x
       unfolding tail
       has-options e k =
-          k ∙ ap (λ i. shown (tailPartsAfter o i) (length s) (tailAfter o n optionsWord (drop m s))) (word-end w) ∙ rw (w .got .reads, w .is, e)
+          k ∙ ap (λ i. seenTo (tailPartsAfter o i) (length s) (tailAfter o n optionsWord (drop m s))) (word-end w) ∙ rw (w .got .reads, w .is, e)
 
       pub text-only : v ≡ Latency → Bare (wordMeaning v) x → Tails x
       unfolding tail tailAfter

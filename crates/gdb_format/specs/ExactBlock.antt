@@ -46,10 +46,10 @@ numberIn (registers b) = 0
 numberIn (memory a b) = a
 numberIn (variable n v) = n
 
-valueIn : Block → ℤ
-valueIn (registers b) = pos 0
-valueIn (memory a b) = pos 0
-valueIn (variable n v) = v
+carriedValue : Block → ℤ
+carriedValue (registers b) = pos 0
+carriedValue (memory a b) = pos 0
+carriedValue (variable n v) = v
 
 abbrev IsBlock : ℕ → Option ℕ → Block → Type 0
 IsBlock letter size c = (letterOf c ≡ letter) × BlockFits size c
@@ -89,11 +89,11 @@ exact-memory f size =
     (elim [ registers b ↦ λ h. clash (cc) | memory a b ↦ λ h. ((refl, (h .0, h .1 .0)), simp append-nil) | variable n v ↦ λ h. clash (cc) ])
 
 exact-variable : (f : Format) (size : Option ℕ) → Exact (variableBlock f) (IsBlock 0x56 size) (content f)
-unfolding letterOf content numberIn valueIn variableBlock
+unfolding letterOf content numberIn carriedValue variableBlock
 exact-variable f size =
     exact-as
     (exact-then (exact-num (f .order) 4 blockPastData) (λ n. exact-then (exact-num (f .order) 8 blockPastData) (λ v. exact-give (variable n (signed64 v)))
-    (λ c. unsigned64 (valueIn c)) (λ v c h e. rw e (unsigned-signed v h)))
+    (λ c. unsigned64 (carriedValue c)) (λ v c h e. rw e (unsigned-signed v h)))
     numberIn (λ n c h e. rw (e .1)))
     (elim [
       | registers b ↦ λ h. absurd (omega arith)

@@ -81,13 +81,13 @@ module _ {A B C : Type 0} (view : ℕ → B → C) (p : Reader B) (h : A → B) 
   rest-at : (at : ℕ) (a b : List ℕ) → drop at s ≡ a ++ b → drop (at + length a) s ≡ b
   rest-at at a b e = sym (drop-drop (length a) at s) ∙ ap (drop (length a)) e ∙ drop-at a b (length a) refl
 
-  within : (at : ℕ) (a b : List ℕ) → at ≤ length s → drop at s ≡ a ++ b → at + length a ≤ length s
-  within at a b l e = omega (arith, length-drop at s, ap length e, length-append a b)
+  ends-within : (at : ℕ) (a b : List ℕ) → at ≤ length s → drop at s ≡ a ++ b → at + length a ≤ length s
+  ends-within at a b l e = omega (arith, length-drop at s, ap length e, length-append a b)
 
   step-there : (at : ℕ) (x : A) (b : List ℕ) → F x → at ≤ length s → drop at s ≡ put x ++ b
       → stepAt view p s at ≡ accepted (some (view at (h x), at + length (put x)))
   step-there at x b g l e =
-      let k = within at (put x) b l e in
+      let k = ends-within at (put x) b l e in
       step-read view p s at (h x) (at + length (put x)) (omega (arith, fill x)) k
       (rw e (reads x b g) ∙ ap (λ r. accepted (h x, r)) (sym (rest-at at (put x) b e)))
 
@@ -98,7 +98,7 @@ module _ {A B C : Type 0} (view : ℕ → B → C) (p : Reader B) (h : A → B) 
   nth-placed zero (x ∷ xs) at g l e = step-there at x (concatMap put xs) (g .0) l e
   nth-placed (suc n) (x ∷ xs) at g l e =
       rw (step-there at x (concatMap put xs) (g .0) l e)
-      (nth-placed n xs (at + length (put x)) (g .1) (within at (put x) (concatMap put xs) l e) (rest-at at (put x) (concatMap put xs) e))
+      (nth-placed n xs (at + length (put x)) (g .1) (ends-within at (put x) (concatMap put xs) l e) (rest-at at (put x) (concatMap put xs) e))
 
 -- ---- lines
 

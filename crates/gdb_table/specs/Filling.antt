@@ -42,8 +42,8 @@ module _ (s : Settings) (b : List ℕ) (p : Plan) (ys : List FrameRecord) (plann
       record { below = omega arith; long = refl; done = ap (λ n. recordsFrom (p .format) b n (p .start)) e; rest = refl }
 
   module _ (i at : ℕ) (ws : List FrameRecord) (f : Filling b p ys i at ws) where
-    pub within : i < p .writes → i < length ws
-    within less = omega (arith, planned .fits, f .long)
+    pub row-within : i < p .writes → i < length ws
+    row-within less = omega (arith, planned .fits, f .long)
 
     one-more : i < p .writes → recordsFrom (p .format) b (p .writes - i) at
         ≡ stepFrom (p .format) b at .found ∷ recordsFrom (p .format) b (p .writes - (i + 1)) (stepFrom (p .format) b at .next)
@@ -58,7 +58,7 @@ module _ (s : Settings) (b : List ℕ) (p : Plan) (ys : List FrameRecord) (plann
       long = length-set ws i (r .found) ∙ f .long;
       done =
           ap (λ k. take k (set ws i (r .found)) ++ recordsFrom (p .format) b (p .writes - (i + 1)) (r .next)) (add-one i)
-          ∙ ap (λ l. l ++ recordsFrom (p .format) b (p .writes - (i + 1)) (r .next)) (take-suc-set ws i (r .found) (within less))
+          ∙ ap (λ l. l ++ recordsFrom (p .format) b (p .writes - (i + 1)) (r .next)) (take-suc-set ws i (r .found) (row-within less))
           ∙ append-snoc (take i ws) (r .found) (recordsFrom (p .format) b (p .writes - (i + 1)) (r .next))
           ∙ ap (λ (z : Step). take i ws ++ (z .found ∷ recordsFrom (p .format) b (p .writes - (i + 1)) (z .next))) e
           ∙ ap (λ l. take i ws ++ l) (sym (one-more less))

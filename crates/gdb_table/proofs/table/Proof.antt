@@ -61,7 +61,7 @@ use Rattle.fields.specs.Output.{Lent}
 use Rattle.gdb_frames.specs.Questions.{asked}
 use Rattle.gdb_table.specs.Records.{frameTable, tableMeaning}
 use Rattle.gdb_table.specs.Walk.{stepFrom, Planned}
-use Rattle.gdb_table.specs.Filling.{Filling, starts, within, goes-on, ends}
+use Rattle.gdb_table.specs.Filling.{Filling, starts, row-within, goes-on, ends}
 use Rattle.gdb_table.specs.declared.FrameRecord.{FrameRecord}
 use Rattle.gdb_table.specs.declared.Step.{Step}
 use Rattle.gdb_table.specs.declared.Plan.{Plan}
@@ -350,7 +350,7 @@ module _ {M : Type 1} (𝓤 : URA M) (H : Heap 𝓤) (A : Atoms 𝓤) (W : Given
             lt = ltb→lt (t .i) goal
 
             in-row : t .i < goal → t .i < length (t .ws)
-            in-row = within g ss plan ys ok (t .i) (t .at) (t .ws) (t .filling)
+            in-row = row-within g ss plan ys ok (t .i) (t .at) (t .ws) (t .filling)
 
             off-fits : t .i < goal → t .i * wide < 2 ^ 64
             off-fits l = omega (arith, room .1, in-row l, t .filling .long)
