@@ -23,6 +23,7 @@ TICKED = re.compile(r'`([^`]+)`')
 CASE = re.compile(r'"([^"]+)" in `([^`]+)`')
 ITEM = re.compile(r'^- "([^"]+)"')
 HOLDER = re.compile(r'^- (\w+): (.*)')
+REQUEST = re.compile(r'\bC-\d+')
 
 # What the gate runs: folders of tests, which .ci/run names, edits that must fail, and programs with their input and output.
 TESTS = re.compile(r'^tests/[a-z]+|^bindings/rust')
@@ -137,6 +138,11 @@ def citations(text):
     yield from [(name, None) for name in names]
 
 
+def awaited(holder):
+    """The requests that a sentence waits for: until one has landed the sentence is context."""
+    return REQUEST.findall(holder.text) if holder.word == 'context' else []
+
+
 def is_run(root, path):
     """Whether the gate runs a file. This folder's tests are asked for by the gate alone."""
     folder = TESTS.match(path)
@@ -195,6 +201,7 @@ def faults(root=ROOT, landed=LANDED):
             found_faults.append((entry.line, f'nothing is said of: {entry.text}'))
         for holder in entry.holders:
             found_faults += [(holder.line, fault) for fault in cited(root, holder)]
+            found_faults += [(holder.line, f'{request} has landed') for request in awaited(holder) if request in landed]
     found_faults += listed(rules, OPEN, [e for e in rules.entries() if 'open' in e.words()])
     found_faults += listed(rules, READ, [e for e in rules.entries() if e.words() == {'read'}])
     return [f'{RULES}:{line}: {fault}' for line, fault in sorted(found_faults)]

@@ -111,6 +111,10 @@ class Spoiled(unittest.TestCase):
         self.lines.remove('### Cut and join')
         self.one('the heading of 01-scope.md is to stand: Cut and join')
 
+    def test_a_sentence_that_still_waits(self):
+        line = self.hold('- context: comes with C-14')
+        self.assertIn(f'{RULES}:{line}: C-14 has landed', self.told(landed=('C-14',)))
+
     def test_a_landed_request(self):
         self.one('the heading of 02-change-requests.md is to stand: C-11. Traces the debugger saved are refused.', ('C-11',))
 
