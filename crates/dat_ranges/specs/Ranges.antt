@@ -21,9 +21,9 @@ use Rattle.dat_ranges.specs.declared.Judgement.the-variants.{Sound, Misp
 abbrev pub rangeOf : ℕ → ℕ → Range
 rangeOf a n = record { offset = a; size = n }
 
-abbrev pub testOf : Test → Range → Bool
-testOf (InFile page end total) = inFile page end total
-testOf (Apart a n) = apart (rangeOf a n)
+abbrev pub testMeaning : Test → Range → Bool
+testMeaning (InFile page end total) = inFile page end total
+testMeaning (Apart a n) = apart (rangeOf a n)
 
 -- a page size is not 0
 abbrev pub possible : Test → Bool
@@ -36,10 +36,10 @@ judgement t rs = cond (all t rs) (cond (allApart rs) Sound Overlap) Misplaced
 
 -- of n entries from `from` on; misplaced where they are not all there, or the test cannot be made
 abbrev pub judged : Test → Order → List ℕ → ℕ → ℕ → Judgement
-judged t o s n from = cond (possible t && leb (from + 16 * n) (length s)) (judgement (testOf t) (entries o s n from)) Misplaced
+judged t o s n from = cond (possible t && leb (from + 16 * n) (length s)) (judgement (testMeaning t) (entries o s n from)) Misplaced
 
 pub judged-there : (t : Test) (o : Order) (s : List ℕ) (n from : ℕ) → possible t ≡ true → from + 16 * n ≤ length s
-    → judged t o s n from ≡ judgement (testOf t) (entries o s n from)
+    → judged t o s n from ≡ judgement (testMeaning t) (entries o s n from)
 judged-there t o s n from e h = rw (e, le-leb (from + 16 * n) (length s) h)
 
 -- ---- ranges in order

@@ -6,7 +6,7 @@ ghost use lib.Dec.{leb};
 ghost use lib.ListN.{length};
 ghost use Rattle.dat_format.specs.Tests.{aligned, inFile, apart, all, allApart};
 ghost use Rattle.dat_format.specs.Entries.{entries};
-ghost use Rattle.dat_ranges.specs.Ranges.{rangeOf, testOf, possible, Leads, judgement, judged};
+ghost use Rattle.dat_ranges.specs.Ranges.{rangeOf, testMeaning, possible, Leads, judgement, judged};
 use fields::Order;
 
 // Whether an offset is a multiple of the page size.
@@ -69,7 +69,7 @@ pub enum Test {
 
 fn passes(test: Test, offset: u64, size: u64) -> bool
     requires { ⌜ possible test ≡ true ⌝ }
-    ensures { λ r. ⌜ r ≡ testOf test (rangeOf offset size) ⌝ }
+    ensures { λ r. ⌜ r ≡ testMeaning test (rangeOf offset size) ⌝ }
 {
     match test {
         Test::InFile { page, end, total } => in_file(page, end, total, offset, size),
@@ -83,7 +83,7 @@ fn passes(test: Test, offset: u64, size: u64) -> bool
 // Whether each of n entries from `from` on passes.
 fn all_pass(s: &[u8], order: Order, test: Test, n: u32, from: usize) -> bool
     requires { ⌜ (possible test ≡ true) × (from ≤ length (now s)) ⌝ }
-    ensures { λ r. ⌜ r ≡ all (testOf test) (entries order (now (s .entry)) n from) ⌝ }
+    ensures { λ r. ⌜ r ≡ all (testMeaning test) (entries order (now (s .entry)) n from) ⌝ }
 {
     let mut at = from;
     let mut left = n;
@@ -179,7 +179,7 @@ pub enum Judgement {
 // Whether each of n entries from `from` on passes, and only then whether two overlap.
 fn judge_in(s: &[u8], order: Order, test: Test, n: u32, from: usize) -> Judgement
     requires { ⌜ (possible test ≡ true) × (from + 16 * n ≤ length (now s)) ⌝ }
-    ensures { λ r. ⌜ r ≡ judgement (testOf test) (entries order (now (s .entry)) n from) ⌝ }
+    ensures { λ r. ⌜ r ≡ judgement (testMeaning test) (entries order (now (s .entry)) n from) ⌝ }
 {
     if all_pass(s, order, test, n, from) {
         if all_apart(s, order, n, from) {

@@ -15,7 +15,7 @@ use Rattle.fields.specs.Reader.{Reader, passAt}
 use Rattle.fields.specs.At.{bytes-short, bytes-at, num-short, num-at, place-of}
 use Rattle.fields.specs.declared.Order.{Order}
 use Rattle.dat_format.specs.Pieces.{fixed, sized}
-use Rattle.dat_read.specs.Steps.{widthOf}
+use Rattle.dat_read.specs.Steps.{widthMeaning}
 use Rattle.dat_read.specs.declared.pieces.Width.{Width}
 use Rattle.dat_read.specs.declared.pieces.Width.the-variants.{Four, Eight}
 
@@ -60,6 +60,6 @@ module _ (s : List ℕ) (at : ℕ) (h : at ≤ length s) where
 pub from-end : {A : Type 0} (p : Reader A) (s : List ℕ) (at : ℕ) → length s < at → passAt p s (length s) ≡ passAt p s at
 from-end p s at h = rw (drop-of-length-le s {i = length s} (omega arith), drop-of-length-le s {i = at} (omega arith))
 
-pub no-size : (o : Order) (w : Width) → sized o (widthOf w) [] ≡ refused fieldPastFile
+pub no-size : (o : Order) (w : Width) → sized o (widthMeaning w) [] ≡ refused fieldPastFile
 no-size o Four = refl
 no-size o Eight = refl

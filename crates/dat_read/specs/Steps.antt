@@ -13,6 +13,6 @@ stepMeaning (Next m) = accepted (tt, m)
 stepMeaning (Refused n) = refused n
 
 -- how many bytes a size field has
-abbrev pub widthOf : Width → ℕ
-widthOf Four = 4
-widthOf Eight = 8
+abbrev pub widthMeaning : Width → ℕ
+widthMeaning Four = 4
+widthMeaning Eight = 8

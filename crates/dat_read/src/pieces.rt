@@ -5,7 +5,7 @@ ghost use lib.ListN.{length};
 ghost use Rattle.fields.specs.Number.{wordAt};
 ghost use Rattle.fields.specs.Reader.{passAt};
 ghost use Rattle.dat_format.specs.Pieces.{fixed, sized};
-ghost use Rattle.dat_read.specs.Steps.{stepMeaning, widthOf};
+ghost use Rattle.dat_read.specs.Steps.{stepMeaning, widthMeaning};
 use fields::Order;
 use refusals::BAD_CONSTANT;
 use refusals::FIELD_PAST_FILE;
@@ -48,7 +48,7 @@ pub enum Width {
 }
 
 fn bytes_of(width: Width) -> usize
-    ensures { λ r. ⌜ r ≡ widthOf width ⌝ }
+    ensures { λ r. ⌜ r ≡ widthMeaning width ⌝ }
 {
     match width {
         Width::Four => 4,
@@ -57,7 +57,7 @@ fn bytes_of(width: Width) -> usize
 }
 
 fn size_at(s: &[u8], order: Order, width: Width, at: usize) -> u64
-    ensures { λ r. ⌜ r ≡ wordAt order (widthOf width) (now (s .entry)) at ⌝ }
+    ensures { λ r. ⌜ r ≡ wordAt order (widthMeaning width) (now (s .entry)) at ⌝ }
 {
     match width {
         Width::Four => fields::u32_at(s, order, at) as u64,
@@ -67,7 +67,7 @@ fn size_at(s: &[u8], order: Order, width: Width, at: usize) -> u64
 
 // A size at `at`, and that many bytes.
 pub fn sized_at(s: &[u8], order: Order, width: Width, at: usize) -> Step
-    ensures { λ r. ⌜ stepMeaning r ≡ passAt (sized order (widthOf width)) (now (s .entry)) at ⌝ }
+    ensures { λ r. ⌜ stepMeaning r ≡ passAt (sized order (widthMeaning width)) (now (s .entry)) at ⌝ }
 {
     if s.len() < at {
         return Step::Refused(FIELD_PAST_FILE);

@@ -25,7 +25,7 @@ use Rattle.fields.specs.Given.{at-case}
 use Rattle.gdb_format.specs.Trace.{Block}
 use Rattle.gdb_format.specs.Trace as trace
 use Rattle.gdb_format.specs.Decode.{registerBlock, memoryBlock, variableBlock, blockOf, block}
-use Rattle.gdb_format.specs.Opening.{sizeIn}
+use Rattle.gdb_format.specs.Opening.{sizeMeaning}
 use Rattle.gdb_format.specs.ExactBlock.{takes-block}
 use Rattle.gdb_format.specs.declared.Format.{Format}
 use Rattle.gdb_format.specs.declared.RegisterSize.{RegisterSize}
@@ -65,12 +65,12 @@ module _ (d : List ℕ) (at : ℕ) (h : at ≤ length d) where
   pub bytes-here : (n : ℕ) → n ≤ length d - at → ContentEnds (bytes n blockPastData (drop at d)) (accepted (some (tt, at + n)))
   bytes-here n l = rw (bytes-at d at n blockPastData h l, place-of d (at + n) (omega arith))
 
-  pub registers-none : {z : RegisterSize} → z ≡ Unknown → ContentEnds (registerBlock (sizeIn z) (drop at d)) (refused noRegisterSize)
+  pub registers-none : {z : RegisterSize} → z ≡ Unknown → ContentEnds (registerBlock (sizeMeaning z) (drop at d)) (refused noRegisterSize)
   unfolding registerBlock
   registers-none e = rw e
 
   pub registers-some : {z : RegisterSize} {n : ℕ} {x : Ending} → z ≡ Bytes n → ContentEnds (bytes n blockPastData (drop at d)) x
-      → ContentEnds (registerBlock (sizeIn z) (drop at d)) x
+      → ContentEnds (registerBlock (sizeMeaning z) (drop at d)) x
   unfolding registerBlock
   registers-some {n} e g = rw e (g ∙ end-of (length d) (bytes n blockPastData (drop at d)) trace.registers)
 

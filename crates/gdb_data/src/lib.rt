@@ -4,7 +4,7 @@ ghost use Prim.Native.Nat.{_<_, _≤_};
 ghost use lib.ListN.{length, drop};
 ghost use Rattle.refusals.specs.Refusal.{blockPastData};
 ghost use Rattle.fields.specs.Reader.{bytes, stepAt};
-ghost use Rattle.gdb_format.specs.Opening.{sizeIn};
+ghost use Rattle.gdb_format.specs.Opening.{sizeMeaning};
 ghost use Rattle.gdb_format.specs.Decode.{registerBlock, memoryBlock, block};
 ghost use Rattle.gdb_data.specs.Blocks.{kindMeaning, kindAt, blockStepMeaning, blockSeen};
 ghost use Rattle.gdb_data.specs.Blocks.{endMeaning, blockPassed, contentEnd, verdictMeaning, blocksFill};
@@ -61,7 +61,7 @@ fn bytes_end(d: &[u8], at: usize, n: usize) -> BlockEnd
 // The content of a register block, from `at` on.
 fn registers_end(size: RegisterSize, d: &[u8], at: usize) -> BlockEnd
     requires { ⌜ at ≤ length (now d) ⌝ }
-    ensures { λ r. ⌜ endMeaning r ≡ contentEnd (length (now (d .entry))) (registerBlock (sizeIn size) (drop at (now (d .entry)))) ⌝ }
+    ensures { λ r. ⌜ endMeaning r ≡ contentEnd (length (now (d .entry))) (registerBlock (sizeMeaning size) (drop at (now (d .entry)))) ⌝ }
 {
     let RegisterSize::Bytes(n) = size else {
         return BlockEnd::Refused(NO_REGISTER_SIZE);
@@ -84,7 +84,7 @@ fn memory_end(format: Format, d: &[u8], at: usize) -> BlockEnd
 
 // What stands at `at`, and where it ends.
 fn block_end(format: Format, size: RegisterSize, d: &[u8], at: usize) -> BlockEnd
-    ensures { λ r. ⌜ endMeaning r ≡ stepAt blockPassed (block format (sizeIn size)) (now (d .entry)) at ⌝ }
+    ensures { λ r. ⌜ endMeaning r ≡ stepAt blockPassed (block format (sizeMeaning size)) (now (d .entry)) at ⌝ }
 {
     if d.len() <= at {
         return BlockEnd::End;
@@ -127,7 +127,7 @@ fn kind_at(format: Format, d: &[u8], at: usize) -> BlockKind
 
 // What stands at `at`, in data that ends where `d` does.
 pub fn block_at(format: Format, size: RegisterSize, d: &[u8], at: usize) -> BlockStep
-    ensures { λ r. ⌜ blockStepMeaning r ≡ stepAt blockSeen (block format (sizeIn size)) (now (d .entry)) at ⌝ }
+    ensures { λ r. ⌜ blockStepMeaning r ≡ stepAt blockSeen (block format (sizeMeaning size)) (now (d .entry)) at ⌝ }
 {
     match block_end(format, size, d, at) {
         BlockEnd::End => BlockStep::End,
@@ -150,7 +150,7 @@ pub enum Verdict {
 
 // Whether blocks fill `d` from `from` on exactly.
 pub fn blocks_from(format: Format, size: RegisterSize, d: &[u8], from: usize) -> Verdict
-    ensures { λ r. ⌜ verdictMeaning r ≡ blocksFill format (sizeIn size) (drop from (now (d .entry))) ⌝ }
+    ensures { λ r. ⌜ verdictMeaning r ≡ blocksFill format (sizeMeaning size) (drop from (now (d .entry))) ⌝ }
 {
     let mut at = from;
     loop {

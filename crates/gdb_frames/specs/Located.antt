@@ -15,7 +15,7 @@ use Rattle.gdb_format.specs.Trace.{Frame, Trace, opening, headIn, putFrame}
 use Rattle.gdb_format.specs.Lines.{registerSize, kindOf}
 use Rattle.gdb_format.specs.Layout.{LineFits, FrameFits}
 use Rattle.gdb_format.specs.Decode.{frameHead, read}
-use Rattle.gdb_format.specs.Opening.{sizeIn}
+use Rattle.gdb_format.specs.Opening.{sizeMeaning}
 use Rattle.gdb_format.specs.FrameBytes.{frame-long}
 use Rattle.gdb_format.specs.ExactFrame.{exact-head}
 use Rattle.gdb_format.specs.declared.Settings.{Settings}
@@ -38,7 +38,7 @@ frameLocated n f t = next (frameRow n f t) (λ v. accepted (rowIn f t v))
 
 -- what `LocatedAnswer` says
 abbrev pub locatedMeaning : LocatedAnswer → Answer (Format × (Option ℕ × Row))
-locatedMeaning (located.Frame l) = accepted (l .format, (sizeIn (l .size), headMeaning (l .head)))
+locatedMeaning (located.Frame l) = accepted (l .format, (sizeMeaning (l .size), headMeaning (l .head)))
 locatedMeaning (located.Refused n) = refused n
 
 -- ---- frame n

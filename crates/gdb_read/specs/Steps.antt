@@ -10,7 +10,7 @@ use Rattle.fields.specs.Answer.{Answer, accepted, refused, next}
 use Rattle.gdb_format.specs.Trace.{Frame, Trace, opening, headIn, putFrame, encode}
 use Rattle.gdb_format.specs.Lines.{registerSize}
 use Rattle.gdb_format.specs.Decode.{frames}
-use Rattle.gdb_format.specs.Opening.{sizeIn}
+use Rattle.gdb_format.specs.Opening.{sizeMeaning}
 use Rattle.gdb_format.specs.declared.Format.{Format}
 use Rattle.gdb_read.specs.declared.FrameHead.{FrameHead}
 use Rattle.gdb_read.specs.declared.FrameStep.{FrameStep}
@@ -90,7 +90,7 @@ readSeen x = next x (λ r. accepted (summaryOf (r .0) (r .1)))
 
 -- what `Opened` and `Reading` say
 abbrev pub openedMeaning : Opened → Summary
-openedMeaning o = record { format = o .format; size = sizeIn (o .size); start = o .start; end = o .end; frames = o .frames }
+openedMeaning o = record { format = o .format; size = sizeMeaning (o .size); start = o .start; end = o .end; frames = o .frames }
 
 abbrev pub readingMeaning : Reading → Answer Summary
 readingMeaning (reading.Accepted o) = accepted (openedMeaning o)

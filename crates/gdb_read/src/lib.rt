@@ -2,7 +2,7 @@
 ghost use mathlib.Core.Path.{_≡_};
 ghost use lib.ListN.{take, drop};
 ghost use Rattle.fields.specs.Reader.{stepAt};
-ghost use Rattle.gdb_format.specs.Opening.{sizeIn};
+ghost use Rattle.gdb_format.specs.Opening.{sizeMeaning};
 ghost use Rattle.gdb_format.specs.Decode.{frameHead, frame, decode};
 ghost use Rattle.gdb_format.specs.Decode.{read as fileRead};
 ghost use Rattle.gdb_read.specs.Steps.{frameMeaning, headSeen, frameSeen, framesMeaning, framesCounted, readingMeaning, summaryIn, readSeen};
@@ -60,7 +60,7 @@ pub fn head_at(format: Format, s: &[u8], at: usize) -> FrameStep
 
 // What stands at `at`, a frame with all its blocks.
 pub fn frame_at(format: Format, size: RegisterSize, s: &[u8], at: usize) -> FrameStep
-    ensures { λ r. ⌜ frameMeaning r ≡ stepAt (frameSeen format) (frame format (sizeIn size)) (now (s .entry)) at ⌝ }
+    ensures { λ r. ⌜ frameMeaning r ≡ stepAt (frameSeen format) (frame format (sizeMeaning size)) (now (s .entry)) at ⌝ }
 {
     match head_at(format, s, at) {
         FrameStep::End => FrameStep::End,
@@ -84,7 +84,7 @@ enum Count {
 
 // How many frames fill `s` from `from` on.
 fn frames_from(format: Format, size: RegisterSize, s: &[u8], from: usize) -> Count
-    ensures { λ r. ⌜ framesMeaning r ≡ framesCounted format (sizeIn size) (drop from (now (s .entry))) ⌝ }
+    ensures { λ r. ⌜ framesMeaning r ≡ framesCounted format (sizeMeaning size) (drop from (now (s .entry))) ⌝ }
 {
     let mut at = from;
     let mut n: usize = 0;

@@ -4,7 +4,7 @@ use Prim.Native.Nat.{_+_, _*_}
 use lib.ListN.{length}
 use borrow.Author.Tests.{not-true, not-false}
 use Rattle.dat_format.specs.Tests.{all, tested}
-use Rattle.dat_ranges.specs.Ranges.{testOf}
+use Rattle.dat_ranges.specs.Ranges.{testMeaning}
 use Rattle.dat_ranges.proofs.EntryLaws.{Entry, Left, left-start, all-stop, all-on, all-end}
 use borrow.Author.Needs.{needs}
 use native.Mathlib.Omega.{arith}
@@ -12,7 +12,7 @@ use Rattle.dat_ranges.proofs.all_pass.Statement.{statement}
 use Rattle.dat_ranges.proofs.all_pass.Tie as tie
 
 abbrev Inv-loop : tie.InvT-loop
-Inv-loop s order test n from at₀ left₀ at left = Left (all (testOf test)) order s (length s + 16 * n) n from left at
+Inv-loop s order test n from at₀ left₀ at left = Left (all (testMeaning test)) order s (length s + 16 * n) n from left at
 
 abbrev μ-loop : tie.MeasureT-loop
 μ-loop s order test n from at₀ left₀ at left = left
@@ -33,17 +33,17 @@ the-entry c = record { offset = c .before .u64-at .ensures; size = c .u64-at2 .e
 returns : tie.Need-returns Inv-loop μ-loop
 returns c =
     let h : Loop = search in
-    let t = testOf (start h .args .test) in
+    let t = testMeaning (start h .args .test) in
     all-stop t (h .loop .inv) (omega arith) (the-entry (search)) (tested (c .before .passes .ensures) (not-true _ (c .if1 .taken)))
 
 loop-again : tie.Need-loop-again Inv-loop μ-loop
 loop-again c =
     let h : Loop = search in
-    let t = testOf (start h .args .test) in
+    let t = testMeaning (start h .args .test) in
     all-on t (h .loop .inv) (omega arith) (the-entry (search)) (tested (c .before .passes .ensures) (not-false _ (c .if1 .left)))
 
 returns-2 : tie.Need-returns-2 Inv-loop μ-loop
-returns-2 c = let h : Loop = search in all-end (testOf (start h .args .test)) (h .loop .inv) (omega arith)
+returns-2 c = let h : Loop = search in all-end (testMeaning (start h .args .test)) (h .loop .inv) (omega arith)
 
 passes-requires : tie.Need-passes-requires Inv-loop μ-loop
 passes-requires c κs = let q : tie.Start Inv-loop μ-loop = search in q .pre .0

@@ -3,7 +3,7 @@ use mathlib.Core.Bool.{Bool}
 use mathlib.Core.List.{List}
 use Rattle.dat_format.specs.Header.{Range}
 use Rattle.dat_format.specs.Entries.{entries}
-use Rattle.dat_ranges.specs.Ranges.{testOf}
+use Rattle.dat_ranges.specs.Ranges.{testMeaning}
 use Rattle.dat_format.specs.Tests.{tested}
 use Rattle.dat_ranges.proofs.RangeLaws.{judgement-of}
 use borrow.Author.Needs.{needs}
@@ -11,7 +11,7 @@ use Rattle.dat_ranges.proofs.judge_in.Statement.{statement}
 use Rattle.dat_ranges.proofs.judge_in.Tie as tie
 
 abbrev test : tie.Start → Range → Bool
-test i = testOf (i .args .test)
+test i = testMeaning (i .args .test)
 
 abbrev judged : tie.Start → List Range
 judged i = entries (i .args .order) (i .args .s .now) (i .args .n) (i .args .from)

@@ -2,7 +2,7 @@
 use mathlib.Core.Path.{sym, ap, _∙_}
 use borrow.Author.Tests.{leb-true}
 use Rattle.fields.specs.Given.{at-case}
-use Rattle.dat_ranges.specs.Ranges.{rangeOf, testOf, possible}
+use Rattle.dat_ranges.specs.Ranges.{rangeOf, testMeaning, possible}
 use borrow.Author.Needs.{needs}
 use Rattle.dat_ranges.proofs.passes.Statement.{statement}
 use Rattle.dat_ranges.proofs.passes.Tie as tie
@@ -14,13 +14,13 @@ returns : tie.Need-returns
 returns c =
     let q : tie.Start = search in
     let t : tie.After-test = search in
-    c .in-file .ensures ∙ ap (λ t. testOf t (rangeOf (q .args .offset) (q .args .size))) (sym (t .test .given .1))
+    c .in-file .ensures ∙ ap (λ t. testMeaning t (rangeOf (q .args .offset) (q .args .size))) (sym (t .test .given .1))
 
 returns-2 : tie.Need-returns-2
 returns-2 c =
     let q : tie.Start = search in
     let t : tie.After-test2 = search in
-    c .are-apart .ensures ∙ ap (λ t. testOf t (rangeOf (q .args .offset) (q .args .size))) (sym (t .test2 .given .1))
+    c .are-apart .ensures ∙ ap (λ t. testMeaning t (rangeOf (q .args .offset) (q .args .size))) (sym (t .test2 .given .1))
 
 pub passes-spec : {M : Type 1} → statement M
 passes-spec =

@@ -3,7 +3,7 @@
 use mathlib.Core.Path.{_≡_, refl, _∙_}
 use Prim.Native.Nat.{_-_}
 use lib.ListN.{length, drop}
-use Rattle.gdb_format.specs.Opening.{sizeIn}
+use Rattle.gdb_format.specs.Opening.{sizeMeaning}
 use Rattle.gdb_data.specs.Blocks.{blocksFill}
 use Rattle.gdb_data.proofs.BlockLaws.{Ended}
 use Rattle.gdb_data.proofs.Fills.{fill-end, fill-refused, fill-turn}
@@ -13,7 +13,7 @@ use Rattle.gdb_data.proofs.blocks_from.Statement.{statement}
 use Rattle.gdb_data.proofs.blocks_from.Tie as tie
 
 abbrev Inv-loop : tie.InvT-loop
-Inv-loop format size d from at₀ at = blocksFill format (sizeIn size) (drop at d) ≡ blocksFill format (sizeIn size) (drop from d)
+Inv-loop format size d from at₀ at = blocksFill format (sizeMeaning size) (drop at d) ≡ blocksFill format (sizeMeaning size) (drop from d)
 
 abbrev μ-loop : tie.MeasureT-loop
 μ-loop format size d from at₀ at = length d - at
@@ -21,7 +21,7 @@ abbrev μ-loop : tie.MeasureT-loop
 -- the block where the walk stands
 ended : (c : tie.After-block-end Inv-loop μ-loop)
     → let l = c .before in let a = l .before .before .args in
-    Ended (a .format) (sizeIn (a .size)) (a .d .now) (l .loop .at) (c .block-end .result)
+    Ended (a .format) (sizeMeaning (a .size)) (a .d .now) (l .loop .at) (c .block-end .result)
 ended c = record { answers = c .block-end .ensures }
 
 abbrev Loop : Type 0

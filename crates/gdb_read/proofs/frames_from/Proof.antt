@@ -2,7 +2,7 @@
 -- Assumes nothing.
 use Prim.Native.Nat.{_-_}
 use lib.ListN.{length}
-use Rattle.gdb_format.specs.Opening.{sizeIn}
+use Rattle.gdb_format.specs.Opening.{sizeMeaning}
 use Rattle.gdb_read.specs.Steps.{frameMeaning}
 use Rattle.gdb_read.proofs.Walks.{Counting, Counted, count-starts, count-end, count-refused, count-turn}
 use Rattle.fields.specs.Given.{at-case}
@@ -12,7 +12,7 @@ use Rattle.gdb_read.proofs.frames_from.Statement.{statement}
 use Rattle.gdb_read.proofs.frames_from.Tie as tie
 
 abbrev Inv-loop : tie.InvT-loop
-Inv-loop format size s from at₀ n₀ at n = Counting format (sizeIn size) s from at n
+Inv-loop format size s from at₀ n₀ at n = Counting format (sizeMeaning size) s from at n
 
 abbrev μ-loop : tie.MeasureT-loop
 μ-loop format size s from at₀ n₀ at n = length s - at
@@ -26,11 +26,11 @@ Next = tie.After-next Inv-loop μ-loop
 
 -- the frame that was met
 turn : (c : Next) → let h : Loop = c .before .before .before in let a = h .before .before .args in
-    Counted (a .format) (sizeIn (a .size)) (a .s .now) (a .from) (h .loop .at) (h .loop .n) (c .next .given .0 .1 .0)
+    Counted (a .format) (sizeMeaning (a .size)) (a .s .now) (a .from) (h .loop .at) (h .loop .n) (c .next .given .0 .1 .0)
 turn c = let h : Loop = search in count-turn (h .loop .inv) (at-case frameMeaning (c .next .given .1) (search))
 
 loop-holds : tie.Need-loop-holds Inv-loop μ-loop
-loop-holds c = let a = c .before .args in count-starts (a .format) (sizeIn (a .size)) (a .s .now) (a .from)
+loop-holds c = let a = c .before .args in count-starts (a .format) (sizeMeaning (a .size)) (a .s .now) (a .from)
 
 returns : tie.Need-returns Inv-loop μ-loop
 returns c = let h : Loop = search in count-end (h .loop .inv) (at-case frameMeaning (c .enum-told .given .1) (search))

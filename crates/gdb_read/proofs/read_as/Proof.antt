@@ -1,7 +1,7 @@
 -- `gdb_read::read_as` meets its contract: each part's answer is the whole's.
 -- Assumes nothing.
 use Rattle.fields.specs.Number.{Bytes}
-use Rattle.gdb_format.specs.Opening.{sizeIn, openingMeaning}
+use Rattle.gdb_format.specs.Opening.{sizeMeaning, openingMeaning}
 use Rattle.gdb_read.specs.Steps.{framesMeaning}
 use Rattle.gdb_read.proofs.Whole.{too-long, bad-opening, bad-frames, all-read}
 use Rattle.fields.specs.Given.{bytes-given, at-case}
@@ -30,7 +30,7 @@ returns-3 c =
     let a = start .args in
     let e = o .end .given in
     let g = c .before .n2 .given in
-    bad-frames (a .format) (a .file .now) (omega arith) (file-bytes (search)) (e .0 .0) (sizeIn (e .0 .1 .0)) (at-case openingMeaning (e .1) (search))
+    bad-frames (a .format) (a .file .now) (omega arith) (file-bytes (search)) (e .0 .0) (sizeMeaning (e .0 .1 .0)) (at-case openingMeaning (e .1) (search))
     (g .0 .0) (at-case framesMeaning (g .1) (search))
 
 returns-4 : tie.Need-returns-4
@@ -40,7 +40,7 @@ returns-4 c =
     let a = start .args in
     let e = o .end .given in
     let g = c .before .frames .given in
-    all-read (a .format) (a .file .now) (omega arith) (file-bytes (search)) (e .0 .0) (sizeIn (e .0 .1 .0)) (at-case openingMeaning (e .1) (search))
+    all-read (a .format) (a .file .now) (omega arith) (file-bytes (search)) (e .0 .0) (sizeMeaning (e .0 .1 .0)) (at-case openingMeaning (e .1) (search))
     (g .0 .0) (at-case framesMeaning (g .1) (search))
 
 pub read-as-spec : {M : Type 1} → statement M
