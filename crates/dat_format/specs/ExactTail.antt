@@ -11,7 +11,7 @@ use lib.Dec.{eqb}
 use borrow.Author.Tests.{eqb-true, eqb-false}
 use Rattle.refusals.specs.Refusal.{fieldPastFile, badConstant}
 use Rattle.fields.specs.Lists.{concatMap, Each, clash}
-use Rattle.fields.specs.Number.{field, length-field}
+use Rattle.fields.specs.Number.{field, length-field, field-before}
 use Rattle.fields.specs.Word.{starts, starts-same}
 use Rattle.fields.specs.Reader.{_>>=_, give}
 use Rattle.fields.specs.Exact.{Exact, exact-give, exact-refuse, exact-bytes, exact-then, exact-as, exact-cond, exact-num}
@@ -127,7 +127,7 @@ exact-optionsF (suc f) o =
     (elim [ [] ↦ λ h. ((omega arith, tt), append-nil _) | x ∷ l ↦ λ h. ((omega arith, ((h .1 .1, h .0, h .1 .2), h .1 .4)), list-rest o x l) ])
 
 option-length : (o : Order) (x : Opt) → 0 < length (putOpt o x)
-option-length o x = omega (arith, length-append (field o 2 (x .type)) (putSized o 4 (x .body)), length-field o 2 (x .type))
+option-length o x = omega (arith, field-before o 2 (x .type) (putSized o 4 (x .body)))
 
 list-length : (o : Order) (l : List Opt) → length l ≤ length (concatMap (putOpt o) l)
 list-length o [] = omega arith

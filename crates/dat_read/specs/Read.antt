@@ -5,9 +5,9 @@ use mathlib.Core.Bool.{true}
 use Prim.Native.Nat.{ℕ, _+_, _-_, _≤_}
 use native.Mathlib.Omega.{arith}
 use mathlib.Core.List.{List, []}
-use lib.ListN.{length, drop, length-append, drop-of-length-le}
+use lib.ListN.{length, drop, drop-of-length-le}
 use Rattle.fields.specs.Lists.{concatMap}
-use Rattle.fields.specs.Number.{Bytes, field, length-field}
+use Rattle.fields.specs.Number.{Bytes, field-before}
 use Rattle.fields.specs.Word.{starts}
 use Rattle.fields.specs.Answer.{refused}
 use Rattle.fields.specs.Reader.{Reader, seenAt, passAt}
@@ -62,7 +62,7 @@ abbrev pub Sized : Order → ℕ → List ℕ → ℕ → ℕ → Type 0
 Sized o w s at m = Got (sized o w) (DataFits w) (putSized o w) s at m
 
 pub length-sized : (o : Order) (w : ℕ) (d : List ℕ) → length (putSized o w d) ≡ w + length d
-length-sized o w d = omega (arith, length-append (field o w (length d)) d, length-field o w (length d))
+length-sized o w d = field-before o w (length d) d
 
 pub sized-end : (o : Order) (w : ℕ) (s : List ℕ) (at m : ℕ) (g : Sized o w s at m) → m ≡ at + w + length (g .value)
 sized-end o w s at m g = omega (arith, g .place, length-sized o w (g .value))
@@ -70,7 +70,7 @@ sized-end o w s at m g = omega (arith, g .place, length-sized o w (g .value))
 -- ---- elements behind their count
 
 pub length-counted : {A : Type 0} (o : Order) (put : A → List ℕ) (l : List A) → length (putCounted o put l) ≡ 4 + length (concatMap put l)
-length-counted o put l = omega (arith, length-append (field o 4 (length l)) (concatMap put l), length-field o 4 (length l))
+length-counted o put l = field-before o 4 (length l) (concatMap put l)
 
 -- ---- a part of the file
 

@@ -1,16 +1,15 @@
 -- Frame n and line j of an accepted file, where the walk finds them.
 -- Assumes nothing.
 use mathlib.Core.Path.{_≡_, refl, sym, ap, _∙_}
-use mathlib.Core.Option.{Option, none, some}
+use mathlib.Core.Option.{Option}
 use Prim.Native.Nat.{ℕ, _+_, _<_}
 use native.Mathlib.Omega.{arith}
 use mathlib.Core.List.{List, [], _∷_}
 use lib.ListN.{length, take}
 use borrow.Author.Tests.{le-leb}
-use Rattle.refusals.specs.Refusal.{notFound}
-use Rattle.fields.specs.Lists.{concatMap, Each, clash}
-use Rattle.fields.specs.Answer.{Answer, accepted, refused, next, never, next-inv, refused-inv, accepted-one, accepted-inj, next-assoc}
-use Rattle.fields.specs.Element.{nth, nth-refused}
+use Rattle.fields.specs.Lists.{concatMap, Each}
+use Rattle.fields.specs.Answer.{Answer, accepted, refused, next, next-inv, refused-inv, accepted-inj, next-assoc}
+use Rattle.fields.specs.Element.{nth}
 use Rattle.gdb_format.specs.Trace.{Frame, Trace, opening, headIn, putFrame}
 use Rattle.gdb_format.specs.Lines.{registerSize, kindOf}
 use Rattle.gdb_format.specs.Layout.{LineFits, FrameFits}

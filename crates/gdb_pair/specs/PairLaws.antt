@@ -32,7 +32,7 @@ use Rattle.gdb_join.specs.JoinTraces.{layout-join}
 use Rattle.gdb_frames.specs.File.{read-file, same-lines}
 use Rattle.fields.specs.Word.{same-bytes}
 use Rattle.fields.specs.Element.{nth}
-use Rattle.gdb_join.specs.JoinLaws.{refused-same, Both, Paired, join-inv, pair-gives}
+use Rattle.gdb_join.specs.JoinLaws.{Both, Paired, join-inv, pair-gives}
 use Rattle.gdb_pair.specs.Pair.{Side, first, second, onSide, sided, pairPlace, pairPart, HandedPair, pairVariable, foundPlace}
 
 -- ---- a pair that can be joined
