@@ -103,6 +103,23 @@ static void joined(const char *name, size_t length, uint8_t refusal)
     end();
 }
 
+/* The openings differ, and the result would be too long: 13 comes first. */
+static void differing(void)
+{
+    static const uint8_t other[] = "\x7fTRACE0\nx\n\n\1\0\0\0\0\0";
+    size_t frames;
+    uint8_t *first = long_trace(LIMIT, &frames);
+    uint8_t *out = patterned(LIMIT);
+    begin("a join of other openings, too long besides");
+    CHECK(is_length(tfk_join(LITTLE, first, LIMIT, other, sizeof other - 1, out, LIMIT), TFK_OPENINGS_DIFFER, 0));
+    CHECK(is_length(tfk_join(LITTLE, other, sizeof other - 1, first, LIMIT, out, 0), TFK_OPENINGS_DIFFER, 0));
+    CHECK(all_pattern(out, LIMIT));
+    CHECK(is_part(tfk_pair_place(LITTLE, first, LIMIT, other, sizeof other - 1, 0), TFK_OPENINGS_DIFFER, 0, 0, 0));
+    free(first);
+    free(out);
+    end();
+}
+
 static void long_dats(void)
 {
     uint8_t *file = zeros(LIMIT + 1);
@@ -120,5 +137,6 @@ void limits(void)
     one_byte_more();
     joined("a join of 67,108,864 bytes", LIMIT, 0);
     joined("a join of 67,108,865 bytes", LIMIT + 1, TFK_TOO_LONG);
+    differing();
     long_dats();
 }

@@ -1,12 +1,12 @@
 -- Both sides of the length limit, tried on the definitions: no array of a program holds such files.
 -- Assumes nothing.
-use mathlib.Core.Path.{_≡_, refl}
-use Prim.Native.Nat.{ℕ, zero, suc, _+_, _≤_}
+use mathlib.Core.Path.{_≡_, refl, _∙_}
+use Prim.Native.Nat.{ℕ, zero, suc, _+_, _<_, _≤_}
 use native.Mathlib.Omega.{arith}
 use mathlib.Core.List.{[], _∷_}
 use lib.ListN.{length, replicate, length-replicate, length-append}
 use borrow.Author.Tests.{lt-leb}
-use Rattle.refusals.specs.Refusal.{limit, tooLong}
+use Rattle.refusals.specs.Refusal.{limit, tooLong, openingsDiffer}
 use Rattle.fields.specs.Lists.{concatMap, clash}
 use Rattle.fields.specs.Number.{length-field}
 use Rattle.fields.specs.Answer.{accepted, refused}
@@ -26,6 +26,10 @@ use Rattle.fields.specs.Word.{bytes-same}
 -- a line `xxx..` of k + 1 bytes, and one frame of size 0
 abbrev long : ℕ → Trace
 long k = traceOf ((0x78 ∷ replicate k 0x78) ∷ []) (record { tracepoint = 1; blocks = [] } ∷ [])
+
+-- no line, and the same frame
+abbrev one : Trace
+one = traceOf [] (record { tracepoint = 1; blocks = [] } ∷ [])
 
 no-end : (k : ℕ) → NoEnd (replicate k 0x78)
 no-end zero = tt
@@ -73,3 +77,28 @@ module _ (s : Settings) (f : Format) (ok : settingsOf s ≡ accepted f) (k : ℕ
   join-too-long h =
       rw (read-file s f (encode f (long k)) (long k) ok (file-long (omega (arith, h))), bytes-same (opening (long k .lines)))
       (rw (lt-leb (length (encode f (join (long k) (long k)))) limit (omega (arith, h, length-encode f (join (long k) (long k)), opening-long, frames-long))))
+
+  one-long : length (opening (one .lines)) + length (concatMap (putFrame f) (one .frames)) ≡ 15
+  unfolding opening
+  one-long = simp (length-append, length-field) refl
+
+  one-file : File f (encode f one) one
+  one-file =
+      let n : length (encode f one) ≡ 15 = length-encode f one ∙ one-long in
+      record {
+        fits = record {
+          lines-fit = (tt, omega arith, omega arith);
+          frames-fit = ((omega arith, omega arith, tt), tt);
+          length-fits = omega (arith, n);
+        };
+        laid-out = refl;
+      }
+
+  -- 13 ahead of 1: the openings of these two differ, and their join would be longer than the limit
+  pub differ-before-length : k + 17 ≡ 67108864
+      → (joinOf s (encode f (long k)) (encode f one) ≡ refused openingsDiffer) × (limit < length (encode f (join (long k) one)))
+  unfolding joinOf opening
+  differ-before-length h = (
+    rw (read-file s f (encode f (long k)) (long k) ok (file-long (omega (arith, h))), read-file s f (encode f one) one ok one-file),
+    omega (arith, h, length-encode f (join (long k) one), opening-long, frames-long),
+  )
