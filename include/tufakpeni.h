@@ -21,7 +21,7 @@ extern "C" {
 #endif
 
 /* The number of this interface. It changes with every struct, call and number of this header. */
-#define TFK_INTERFACE 1
+#define TFK_INTERFACE 2
 
 /* The number of the library's interface. */
 uint64_t tfk_interface(void);
@@ -36,7 +36,7 @@ enum {
     TFK_BAD_HEAD = 3,            /* the head differs or is cut short */
     TFK_NO_EMPTY_LINE = 4,       /* the description has no empty line */
     TFK_BAD_LINE = 5,            /* an ended `R ` line breaks its form, or a second `R ` or `status ` line */
-    TFK_SHORT_HEAD = 6,          /* 1 to 5 bytes remain where a frame head should start */
+    TFK_SHORT_HEAD = 6,          /* 1 to 5 bytes remain where a frame head should start, and do not begin with two bytes of 0 */
     TFK_DATA_PAST_FILE = 7,      /* a frame's data runs past the file */
     TFK_BAD_LETTER = 8,          /* a block letter other than R, M, V */
     TFK_BLOCK_PAST_DATA = 9,     /* a block runs past its frame's data */
@@ -47,10 +47,13 @@ enum {
     TFK_FIELD_PAST_FILE = 14,    /* a trace.dat field or named piece runs past the file */
     TFK_BAD_CONSTANT = 15,       /* a trace.dat fixed string, flag, long size or page size is wrong */
     TFK_BAD_RANGE = 16,          /* CPU count above 1,024; a CPU range misaligned, before the header's end or past the file */
-    TFK_RANGES_OVERLAP = 17      /* two CPU ranges overlap */
+    TFK_RANGES_OVERLAP = 17,     /* two CPU ranges overlap */
+    TFK_BAD_MARK = 18            /* a bad end mark: two bytes of 0 where a frame head should start, and not exactly four of 0 from there to the file's end */
 };
 
 /* ---- GDB traces ---- */
+
+/* Behind its frames a GDB trace may have the end mark, four bytes of 0 up to the file's end. It is no frame and no part of one; no frame has the tracepoint number 0. */
 
 /* How a GDB trace is read. Its byte order is not recorded in the file: 0 little, 1 big, any other is refused with 2. */
 typedef struct {
@@ -61,6 +64,12 @@ typedef struct {
     uint8_t refusal;
     size_t count;
 } tfk_count;
+
+/* `marked` is 1 where the end mark is there and 0 where it is not. */
+typedef struct {
+    uint8_t refusal;
+    uint8_t marked;
+} tfk_mark;
 
 /* A part of the file: `length` bytes from `place` on. */
 typedef struct {
@@ -105,6 +114,9 @@ typedef struct {
 
 /* The number of frames. */
 tfk_count tfk_frame_count(tfk_settings settings, const uint8_t *file, size_t file_length);
+
+/* Whether the file ends in the end mark. */
+tfk_mark tfk_end_mark(tfk_settings settings, const uint8_t *file, size_t file_length);
 
 /* The frame table: one record per frame; the answer is the number of frames. Records beyond the last frame stay unchanged; 11 where there are more frames than records.
  * The records may not overlap the file. */
@@ -160,13 +172,13 @@ typedef struct {
 /* The selection of the other sense. */
 tfk_selection tfk_opposite(tfk_selection selection);
 
-/* The opening and every selected frame. The output may not overlap the file. */
+/* The opening, every selected frame, and the end mark if the file has one. The output may not overlap the file. */
 tfk_length tfk_cut(tfk_settings settings, const uint8_t *file, size_t file_length, tfk_selection selection, uint8_t *out, size_t out_length);
 
-/* The common opening, the first trace's frames, then the second's. The output may overlap neither file. */
+/* The common opening, the first trace's frames, then the second's, and one end mark if either trace has one. The output may overlap neither file. */
 tfk_length tfk_join(tfk_settings settings, const uint8_t *first, size_t first_length, const uint8_t *second, size_t second_length, uint8_t *out, size_t out_length);
 
-/* The data of frame n of two traces read as if joined. */
+/* The data of frame n of two traces read as if joined; 1 goes by the length of the join, its end mark counted. */
 tfk_pair_part tfk_pair_place(tfk_settings settings, const uint8_t *first, size_t first_length, const uint8_t *second, size_t second_length, size_t n);
 
 /* The value of a variable in frame n of two traces read as if joined. */

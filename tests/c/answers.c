@@ -5,6 +5,11 @@ int is_count(tfk_count answer, uint8_t refusal, size_t count)
     return answer.refusal == refusal && answer.count == count;
 }
 
+int is_mark(tfk_mark answer, uint8_t refusal, uint8_t marked)
+{
+    return answer.refusal == refusal && answer.marked == marked;
+}
+
 int is_place(tfk_place answer, uint8_t refusal, size_t place, size_t length)
 {
     return answer.refusal == refusal && answer.place == place && answer.length == length;

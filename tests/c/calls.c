@@ -20,9 +20,8 @@ static void frame_refused(tfk_settings settings, const uint8_t *file, size_t len
     CHECK(is_value(tfk_variable(settings, file, length, n, 1), refusal, 0));
 }
 
-/* The questions of frame n of a pair answer with this refusal. */
-static void pair_refused(tfk_settings settings, const uint8_t *first, size_t first_length, const uint8_t *second,
-                         size_t second_length, size_t n, uint8_t refusal)
+void pair_refused(tfk_settings settings, const uint8_t *first, size_t first_length, const uint8_t *second,
+                  size_t second_length, size_t n, uint8_t refusal)
 {
     CHECK(is_part(tfk_pair_place(settings, first, first_length, second, second_length, n), refusal, 0, 0, 0));
     CHECK(is_value(tfk_pair_variable(settings, first, first_length, second, second_length, n, 1), refusal, 0));
@@ -37,8 +36,8 @@ static void table_refused(tfk_settings settings, const uint8_t *file, size_t len
     free(table);
 }
 
-static void cut_refused(tfk_settings settings, const uint8_t *file, size_t length, tfk_selection selection, size_t room,
-                        uint8_t refusal)
+void cut_refused(tfk_settings settings, const uint8_t *file, size_t length, tfk_selection selection, size_t room,
+                 uint8_t refusal)
 {
     uint8_t *out = patterned(room);
     CHECK(is_length(tfk_cut(settings, file, length, selection, out, room), refusal, 0));
@@ -46,8 +45,8 @@ static void cut_refused(tfk_settings settings, const uint8_t *file, size_t lengt
     free(out);
 }
 
-static void join_refused(tfk_settings settings, const uint8_t *first, size_t first_length, const uint8_t *second,
-                         size_t second_length, size_t room, uint8_t refusal)
+void join_refused(tfk_settings settings, const uint8_t *first, size_t first_length, const uint8_t *second,
+                  size_t second_length, size_t room, uint8_t refusal)
 {
     uint8_t *out = patterned(room);
     CHECK(is_length(tfk_join(settings, first, first_length, second, second_length, out, room), refusal, 0));
@@ -60,6 +59,7 @@ void all_refuse(tfk_settings settings, const uint8_t *file, size_t length, uint8
     enum { ROOM = 100, BARE_LENGTH = sizeof(BARE) - 1 };
     uint8_t *good = exactly((const uint8_t *)BARE, BARE_LENGTH);
     CHECK(is_count(tfk_frame_count(settings, file, length), refusal, 0));
+    CHECK(is_mark(tfk_end_mark(settings, file, length), refusal, 0));
     CHECK(is_line(tfk_line_place(settings, file, length, 0), refusal, 0, 0, 0));
     frame_refused(settings, file, length, 0, refusal);
     table_refused(settings, file, length, ROOM, refusal);
@@ -85,29 +85,32 @@ static void table_filled(tfk_settings settings, const uint8_t *file, size_t leng
     free(table);
 }
 
-/* A cut whose result is the file's first `kept` bytes: into room that fits, and that is longer. */
-static void cut_filled(tfk_settings settings, const uint8_t *file, size_t length, tfk_selection selection, size_t kept)
+/* A cut whose result is the file's first `kept` bytes and its last `mark`: into room that fits, and that is longer. */
+static void cut_filled(tfk_settings settings, const uint8_t *file, size_t length, tfk_selection selection, size_t kept,
+                       size_t mark)
 {
+    size_t whole = kept + mark;
     for (size_t more = 0; more <= 3; more += 3) {
-        uint8_t *out = patterned(kept + more);
-        CHECK(is_length(tfk_cut(settings, file, length, selection, out, kept + more), 0, kept));
+        uint8_t *out = patterned(whole + more);
+        CHECK(is_length(tfk_cut(settings, file, length, selection, out, whole + more), 0, whole));
         CHECK(memcmp(out, file, kept) == 0);
-        CHECK(all_pattern(out + kept, more));
+        CHECK(memcmp(out + kept, file + length - mark, mark) == 0);
+        CHECK(all_pattern(out + whole, more));
         free(out);
     }
-    cut_refused(settings, file, length, selection, kept - 1, TFK_NO_ROOM);
+    cut_refused(settings, file, length, selection, whole - 1, TFK_NO_ROOM);
     cut_refused(settings, file, length, selection, 0, TFK_NO_ROOM);
 }
 
-/* The join of a file with itself, likewise. */
-static void join_filled(tfk_settings settings, const uint8_t *file, size_t length, size_t opening)
+/* The join of a file with itself, likewise: the frames twice, and the mark once. */
+static void join_filled(tfk_settings settings, const uint8_t *file, size_t length, size_t opening, size_t mark)
 {
-    size_t joined = length + length - opening;
+    size_t frames_end = length - mark, joined = frames_end + length - opening;
     for (size_t more = 0; more <= 3; more += 3) {
         uint8_t *out = patterned(joined + more);
         CHECK(is_length(tfk_join(settings, file, length, file, length, out, joined + more), 0, joined));
-        CHECK(memcmp(out, file, length) == 0);
-        CHECK(memcmp(out + length, file + opening, length - opening) == 0);
+        CHECK(memcmp(out, file, frames_end) == 0);
+        CHECK(memcmp(out + frames_end, file + opening, length - opening) == 0);
         CHECK(all_pattern(out + joined, more));
         free(out);
     }
@@ -115,9 +118,12 @@ static void join_filled(tfk_settings settings, const uint8_t *file, size_t lengt
     join_refused(settings, file, length, file, length, 0, TFK_NO_ROOM);
 }
 
-void all_accept(tfk_settings settings, const uint8_t *file, size_t length, size_t opening, size_t frames)
+void all_accept(tfk_settings settings, const uint8_t *file, size_t length, size_t opening, size_t frames,
+                uint8_t marked)
 {
+    size_t mark = marked ? MARK : 0;
     CHECK(is_count(tfk_frame_count(settings, file, length), 0, frames));
+    CHECK(is_mark(tfk_end_mark(settings, file, length), 0, marked));
     CHECK(is_line(tfk_line_place(settings, file, length, SIZE_MAX), TFK_NOT_FOUND, 0, 0, 0));
     frame_refused(settings, file, length, frames, TFK_NOT_FOUND);
     frame_refused(settings, file, length, SIZE_MAX, TFK_NOT_FOUND);
@@ -127,9 +133,9 @@ void all_accept(tfk_settings settings, const uint8_t *file, size_t length, size_
         table_refused(settings, file, length, frames - 1, TFK_NO_ROOM);
         table_refused(settings, file, length, 0, TFK_NO_ROOM);
     }
-    cut_filled(settings, file, length, EVERY, length);
-    cut_filled(settings, file, length, NONE, opening);
-    join_filled(settings, file, length, opening);
+    cut_filled(settings, file, length, EVERY, length - mark, mark);
+    cut_filled(settings, file, length, NONE, opening, mark);
+    join_filled(settings, file, length, opening, mark);
     pair_refused(settings, file, length, file, length, 2 * frames, TFK_NOT_FOUND);
     pair_refused(settings, file, length, file, length, SIZE_MAX, TFK_NOT_FOUND);
     for (size_t n = 0; n < frames; n++) {

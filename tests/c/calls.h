@@ -11,7 +11,17 @@ extern const tfk_selection NONE;
 /* Every call answers with this refusal and all else 0, and leaves each output unchanged. */
 void all_refuse(tfk_settings settings, const uint8_t *file, size_t length, uint8_t refusal);
 
-/* Every call answers as it must about an accepted file whose opening and number of frames are known. */
-void all_accept(tfk_settings settings, const uint8_t *file, size_t length, size_t opening, size_t frames);
+/* Every call answers as it must about an accepted file whose opening and number of frames are known, and whether it is
+   marked. */
+void all_accept(tfk_settings settings, const uint8_t *file, size_t length, size_t opening, size_t frames,
+                uint8_t marked);
+
+/* A cut, a join and the questions of frame n of a pair answer with this refusal, and leave the output unchanged. */
+void cut_refused(tfk_settings settings, const uint8_t *file, size_t length, tfk_selection selection, size_t room,
+                 uint8_t refusal);
+void join_refused(tfk_settings settings, const uint8_t *first, size_t first_length, const uint8_t *second,
+                  size_t second_length, size_t room, uint8_t refusal);
+void pair_refused(tfk_settings settings, const uint8_t *first, size_t first_length, const uint8_t *second,
+                  size_t second_length, size_t n, uint8_t refusal);
 
 #endif

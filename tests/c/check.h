@@ -5,7 +5,7 @@
 #include <stddef.h>
 #include <stdint.h>
 
-enum { LIMIT = 67108864, PATTERN = 0xA5 };
+enum { LIMIT = 67108864, MARK = 4, PATTERN = 0xA5 };
 
 /* A case passes where all its checks hold. `about` is the number that a failed check prints, a file's length mostly. */
 extern size_t about;

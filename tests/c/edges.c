@@ -10,6 +10,7 @@ int main(void)
     lengths();
     answers();
     tables();
+    marks();
     limits();
     dats();
     return report();

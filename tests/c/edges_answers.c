@@ -110,6 +110,37 @@ static void registers_of_no_size(uint8_t order)
     closed(trace);
 }
 
+/* The last frame of a marked trace ends where the mark starts, and so does its memory. */
+static void before_the_mark(uint8_t order)
+{
+    asked trace = opened(MARK_AFTER_ZEROS, order);
+    tfk_frame records[2];
+    CHECK(is_mark(tfk_end_mark(ASKED(trace)), 0, 1));
+    CHECK(is_count(tfk_frame_table(ASKED(trace), records, 2), 0, 2));
+    CHECK(is_frame(records[0], 1, 19, 3) && is_frame(records[1], 2, 28, 31));
+    CHECK(is_place(tfk_frame_place(ASKED(trace), 1), 0, 28, trace.length - MARK - 28));
+    CHECK(is_registers(tfk_block_record(ASKED(trace), 1, 0), 28));
+    CHECK(is_variable(tfk_block_record(ASKED(trace), 1, 1), 31, 1, -1));
+    CHECK(is_memory(tfk_block_record(ASKED(trace), 1, 2), 44, 0x4D, 4));
+    CHECK(no_block(tfk_block_record(ASKED(trace), 1, 3), TFK_NOT_FOUND));
+    CHECK(is_place(tfk_registers_place(ASKED(trace), 1), 0, 29, 2));
+    CHECK(is_place(tfk_memory_place(ASKED(trace), 1, 0x4D), 0, 55, 4));
+    CHECK(is_place(tfk_memory_place(ASKED(trace), 1, 0x50), 0, 58, 1));
+    CHECK(is_place(tfk_memory_place(ASKED(trace), 1, 0x51), TFK_NOT_FOUND, 0, 0));
+    CHECK(is_value(tfk_variable(ASKED(trace), 1, 1), 0, -1));
+    CHECK(is_value(tfk_pair_variable(ASKED(trace), trace.file, trace.length, 3, 1), 0, -1));
+    closed(trace);
+}
+
+/* A marked trace without frames has its lines. */
+static void lines_before_the_mark(uint8_t order)
+{
+    asked trace = opened(MARK_ALONE, order);
+    CHECK(is_line(tfk_line_place(ASKED(trace), 1), 0, TFK_LINE_TP, 12, 4));
+    CHECK(is_line(tfk_line_place(ASKED(trace), 2), TFK_NOT_FOUND, 0, 0, 0));
+    closed(trace);
+}
+
 /* Two traces whose openings differ are refused with 13, whatever else is asked. */
 static void different_openings(uint8_t order)
 {
@@ -136,6 +167,8 @@ void answers(void)
         lines_and_a_cut(order);
         blocks_of_every_kind(order);
         registers_of_no_size(order);
+        before_the_mark(order);
+        lines_before_the_mark(order);
         different_openings(order);
     }
 }

@@ -18,7 +18,7 @@ static void at_every_length(const small_trace *trace)
         if (expected.refusal != 0) {
             all_refuse(settings, file, length, expected.refusal);
         } else {
-            all_accept(settings, file, length, trace->opening, expected.frames);
+            all_accept(settings, file, length, trace->opening, expected.frames, expected.marked);
         }
         free(file);
     }

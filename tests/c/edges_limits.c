@@ -30,15 +30,17 @@ static void put_little(uint8_t *at, size_t value, size_t width)
     }
 }
 
-/* A trace of exactly this length: frames of one memory block each. The number of frames is left in `frames`. */
-static uint8_t *long_trace(size_t length, size_t *frames)
+/* A trace of exactly this length: frames of one memory block each, then `mark` bytes of 0. The number of frames is left
+   in `frames`. */
+static uint8_t *long_trace(size_t length, size_t mark, size_t *frames)
 {
     uint8_t *file = zeros(length);
+    size_t end = length - mark;
     memcpy(file, BARE, OPENING);
     *frames = 0;
-    for (size_t at = OPENING; at < length; *frames += 1) {
+    for (size_t at = OPENING; at < end; *frames += 1) {
         /* The last two share what is left, so that no frame is too short for its block. */
-        size_t left = length - at;
+        size_t left = end - at;
         size_t size = left <= LARGEST_FRAME ? left : left < 2 * LARGEST_FRAME ? left / 2 : LARGEST_FRAME;
         put_little(file + at, 1, 2);
         put_little(file + at + 2, size - FRAME_HEAD, 4);
@@ -49,45 +51,49 @@ static uint8_t *long_trace(size_t length, size_t *frames)
     return file;
 }
 
-static void longest_file(void)
+static void longest_file(const char *name, size_t mark)
 {
     size_t frames;
-    uint8_t *file = long_trace(LIMIT, &frames);
+    uint8_t *file = long_trace(LIMIT, mark, &frames);
     tfk_place last;
-    begin("a file of 67,108,864 bytes");
+    begin(name);
     CHECK(is_count(tfk_frame_count(LITTLE, file, LIMIT), 0, frames));
+    CHECK(is_mark(tfk_end_mark(LITTLE, file, LIMIT), 0, mark != 0));
     last = tfk_frame_place(LITTLE, file, LIMIT, frames - 1);
-    CHECK(last.refusal == 0 && last.place + last.length == LIMIT);
+    CHECK(last.refusal == 0 && last.place + last.length == LIMIT - mark);
     CHECK(is_memory(tfk_block_record(LITTLE, file, LIMIT, frames - 1, 0), last.place, 0, last.length - MEMORY_HEAD));
     free(file);
     end();
 }
 
-static void one_byte_more(void)
+static void one_byte_more(const char *name, size_t mark)
 {
     size_t frames;
-    uint8_t *file = long_trace(LIMIT + 1, &frames);
+    uint8_t *file = long_trace(LIMIT + 1, mark, &frames);
     tfk_settings wrong = {2};
-    begin("a file of 67,108,865 bytes");
+    begin(name);
     all_refuse(LITTLE, file, LIMIT + 1, TFK_TOO_LONG);
     all_refuse(wrong, file, LIMIT + 1, TFK_BAD_ARGUMENT);
     free(file);
     end();
 }
 
-/* A join of two traces whose result has this length, into room of exactly the limit. */
-static void joined(const char *name, size_t length, uint8_t refusal)
+/* A join of two traces, marked or not, whose result has this length, into room of exactly the limit. */
+static void joined(const char *name, size_t length, size_t first_mark, size_t second_mark, uint8_t refusal)
 {
-    size_t first_frames, second_frames, first_length = LIMIT / 2, second_length = length + OPENING - first_length;
-    uint8_t *first = long_trace(first_length, &first_frames);
-    uint8_t *second = long_trace(second_length, &second_frames);
+    size_t mark = first_mark > second_mark ? first_mark : second_mark, first_end = LIMIT / 2;
+    size_t second_end = length - mark + OPENING - first_end;
+    size_t first_length = first_end + first_mark, second_length = second_end + second_mark, first_frames, second_frames;
+    uint8_t *first = long_trace(first_length, first_mark, &first_frames);
+    uint8_t *second = long_trace(second_length, second_mark, &second_frames);
     uint8_t *out = patterned(LIMIT);
     begin(name);
     tfk_length answer = tfk_join(LITTLE, first, first_length, second, second_length, out, LIMIT);
     CHECK(is_length(answer, refusal, refusal == 0 ? length : 0));
     if (refusal == 0) {
-        CHECK(memcmp(out, first, first_length) == 0);
-        CHECK(memcmp(out + first_length, second + OPENING, second_length - OPENING) == 0);
+        CHECK(memcmp(out, first, first_end) == 0);
+        CHECK(memcmp(out + first_end, second + OPENING, second_end - OPENING) == 0);
+        CHECK(memcmp(out + length - mark, "\0\0\0\0", mark) == 0);
     } else {
         CHECK(all_pattern(out, LIMIT));
         CHECK(is_length(tfk_join(LITTLE, first, first_length, second, second_length, out, 0), refusal, 0));
@@ -103,20 +109,26 @@ static void joined(const char *name, size_t length, uint8_t refusal)
     end();
 }
 
-/* The openings differ, and the result would be too long: 13 comes first. */
+/* The openings differ, and the result would be too long, by a frame or by the mark alone: 13 comes first. */
 static void differing(void)
 {
-    static const uint8_t other[] = "\x7fTRACE0\nx\n\n\1\0\0\0\0\0";
+    static const uint8_t framed[] = "\x7fTRACE0\nx\n\n\1\0\0\0\0\0", marked[] = "\x7fTRACE0\nx\n\n\0\0\0\0";
+    static const struct {
+        const uint8_t *file;
+        size_t length;
+    } OTHERS[] = {{framed, sizeof framed - 1}, {marked, sizeof marked - 1}};
     size_t frames;
-    uint8_t *first = long_trace(LIMIT, &frames);
-    uint8_t *out = patterned(LIMIT);
+    uint8_t *first = long_trace(LIMIT, 0, &frames);
     begin("a join of other openings, too long besides");
-    CHECK(is_length(tfk_join(LITTLE, first, LIMIT, other, sizeof other - 1, out, LIMIT), TFK_OPENINGS_DIFFER, 0));
-    CHECK(is_length(tfk_join(LITTLE, other, sizeof other - 1, first, LIMIT, out, 0), TFK_OPENINGS_DIFFER, 0));
-    CHECK(all_pattern(out, LIMIT));
-    CHECK(is_part(tfk_pair_place(LITTLE, first, LIMIT, other, sizeof other - 1, 0), TFK_OPENINGS_DIFFER, 0, 0, 0));
+    for (size_t i = 0; i < 2; i++) {
+        const uint8_t *other = OTHERS[i].file;
+        size_t length = OTHERS[i].length;
+        about = i;
+        join_refused(LITTLE, first, LIMIT, other, length, LIMIT, TFK_OPENINGS_DIFFER);
+        join_refused(LITTLE, other, length, first, LIMIT, 0, TFK_OPENINGS_DIFFER);
+        pair_refused(LITTLE, first, LIMIT, other, length, 0, TFK_OPENINGS_DIFFER);
+    }
     free(first);
-    free(out);
     end();
 }
 
@@ -133,10 +145,15 @@ static void long_dats(void)
 
 void limits(void)
 {
-    longest_file();
-    one_byte_more();
-    joined("a join of 67,108,864 bytes", LIMIT, 0);
-    joined("a join of 67,108,865 bytes", LIMIT + 1, TFK_TOO_LONG);
+    longest_file("a file of 67,108,864 bytes", 0);
+    longest_file("a marked file of 67,108,864 bytes", MARK);
+    one_byte_more("a file of 67,108,865 bytes", 0);
+    one_byte_more("a marked file of 67,108,865 bytes", MARK);
+    joined("a join of 67,108,864 bytes", LIMIT, 0, 0, 0);
+    joined("a join of 67,108,865 bytes", LIMIT + 1, 0, 0, TFK_TOO_LONG);
+    joined("a join of 67,108,864 bytes, the mark of both counted once", LIMIT, MARK, MARK, 0);
+    joined("a join that the first's mark takes over the limit", LIMIT + 1, MARK, 0, TFK_TOO_LONG);
+    joined("a join that the second's mark takes over the limit", LIMIT + 1, 0, MARK, TFK_TOO_LONG);
     differing();
     long_dats();
 }

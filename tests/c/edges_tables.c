@@ -25,9 +25,11 @@ typedef struct {
 #define FILE_OF(text) (text), sizeof(text) - 1
 #define FRAME(number, at, bytes) {.tracepoint = (number), .place = (at), .size = (bytes)}
 
-/* One frame, then 5 bytes; one frame, then data past the file: both read alike in either order. */
+/* One frame, then 5 bytes; then data past the file; then three bytes of 0: all read alike in either order. */
 #define SHORT_HEAD BARE "\1\0\0\0\0\0" "\1\0\0\0\0"
 #define SHORT_DATA BARE "\1\0\0\0\0\0" "\1\0\1\0\0\1"
+#define SHORT_MARK BARE "\1\0\0\0\0\0" "\0\0\0"
+#define END_MARK "\0\0\0\0"
 #define THREE_SIZES HEAD "R 2\n\n" "\1\0\3\0\0\0" "RMM" "\2\0\15\0\0\0" "V\1\0\0\0\377\377\377\377\377\377\377\377" "\1\0\0\0\0\0"
 
 static const table_case CASES[] = {
@@ -36,9 +38,15 @@ static const table_case CASES[] = {
     {"sizes 3, 13 and 0", 0, FILE_OF(THREE_SIZES), 0, 3, {FRAME(1, 19, 3), FRAME(2, 28, 13), FRAME(1, 47, 0)}},
     {"no frames, little", 0, FILE_OF(BARE), 0, 0, {{0}}},
     {"no frames, big", 1, FILE_OF(BARE), 0, 0, {{0}}},
+    {"sizes 3, 13 and 0, marked", 0, FILE_OF(THREE_SIZES END_MARK), 0, 3,
+     {FRAME(1, 19, 3), FRAME(2, 28, 13), FRAME(1, 47, 0)}},
+    {"no frames, marked, little", 0, FILE_OF(BARE END_MARK), 0, 0, {{0}}},
+    {"no frames, marked, big", 1, FILE_OF(BARE END_MARK), 0, 0, {{0}}},
     {"no frames, order 2", 2, FILE_OF(BARE), TFK_BAD_ARGUMENT, 0, {{0}}},
     {"the number 01 00, little", 0, FILE_OF(BARE "\1\0\0\0\0\0"), 0, 1, {FRAME(1, 15, 0)}},
     {"the number 01 00, big", 1, FILE_OF(BARE "\1\0\0\0\0\0"), 0, 1, {FRAME(256, 15, 0)}},
+    {"the number 00 01, marked, little", 0, FILE_OF(BARE "\0\1\0\0\0\0" END_MARK), 0, 1, {FRAME(256, 15, 0)}},
+    {"the number 00 01, marked, big", 1, FILE_OF(BARE "\0\1\0\0\0\0" END_MARK), 0, 1, {FRAME(1, 15, 0)}},
     {"one frame, order 2", 2, FILE_OF(BARE "\1\0\0\0\0\0"), TFK_BAD_ARGUMENT, 0, {{0}}},
     {"empty file, little", 0, FILE_OF(""), TFK_BAD_HEAD, 0, {{0}}},
     {"empty file, big", 1, FILE_OF(""), TFK_BAD_HEAD, 0, {{0}}},
@@ -49,6 +57,8 @@ static const table_case CASES[] = {
     {"a frame, then 5 bytes, big", 1, FILE_OF(SHORT_HEAD), TFK_SHORT_HEAD, 0, {{0}}},
     {"a frame, then data past the file, little", 0, FILE_OF(SHORT_DATA), TFK_DATA_PAST_FILE, 0, {{0}}},
     {"a frame, then data past the file, big", 1, FILE_OF(SHORT_DATA), TFK_DATA_PAST_FILE, 0, {{0}}},
+    {"a frame, then 3 bytes of 0, little", 0, FILE_OF(SHORT_MARK), TFK_BAD_MARK, 0, {{0}}},
+    {"a frame, then 3 bytes of 0, big", 1, FILE_OF(SHORT_MARK), TFK_BAD_MARK, 0, {{0}}},
 };
 
 /* Record k before. */
@@ -84,7 +94,7 @@ static void answers_with(uint8_t order, const uint8_t *bytes, size_t length, uin
 }
 
 /* Frames without data, numbered from 257 on, so that the two bytes of a number differ: 16 fit, and 17 do not; with 5 bytes
-   behind them the file's own refusal comes first. */
+   behind them the file's own refusal comes first. The end mark takes no record. */
 static void numbered(uint8_t order)
 {
     enum { OPENING = sizeof(BARE) - 1, HEADS = 6 * (RECORDS + 1) };
@@ -96,11 +106,14 @@ static void numbered(uint8_t order)
         put_number(&file, 0, 4);
         expected[k] = (tfk_frame)FRAME((uint16_t)(257 + k), file.length, 0);
     }
-    fill_to(&file, OPENING + HEADS + 5);
+    PUT(&file, "\1\1\0\0\0");
     begin(order ? "16 and 17 frames, big" : "16 and 17 frames, little");
     answers_with(order, file.bytes, OPENING + HEADS - 6, 0, RECORDS, expected);
     answers_with(order, file.bytes, OPENING + HEADS, TFK_NO_ROOM, 0, expected);
     answers_with(order, file.bytes, OPENING + HEADS + 5, TFK_SHORT_HEAD, 0, expected);
+    file.length = OPENING + HEADS - 6;
+    PUT(&file, END_MARK);
+    answers_with(order, file.bytes, file.length, 0, RECORDS, expected);
     end();
 }
 

@@ -12,13 +12,15 @@
 #define LITTLE (tfk_settings){.order = 0}
 #define ASKED(trace) LITTLE, (trace).file.bytes, (trace).file.length
 
-/* Each question about a trace with blocks of every kind; the bytes of both its frames differ in place and in length. */
+/* Each question about a trace with blocks of every kind; the bytes of both its frames differ in place and in length.
+   The end mark is asked for where it is. */
 static void answered(void)
 {
-    small_trace trace = small_trace_of(EVERY_BLOCK, 0);
+    small_trace trace = small_trace_of(EVERY_BLOCK, 0), marked = small_trace_of(MARK_ALONE, 0);
     tfk_frame records[2];
     begin("the answers of a trace");
     CHECK(is_count(tfk_frame_count(ASKED(trace)), 0, 2));
+    CHECK(is_mark(tfk_end_mark(ASKED(marked)), 0, 1));
     CHECK(is_count(tfk_frame_table(ASKED(trace), records, 2), 0, 2) && is_frame(records[1], 7, 65, 8));
     CHECK(is_line(tfk_line_place(ASKED(trace), 0), 0, TFK_LINE_R, 8, 3));
     CHECK(is_place(tfk_registers_place(ASKED(trace), 1), 0, 66, 3));
@@ -38,6 +40,7 @@ static void refused(void)
     tfk_settings third = {.order = 2};
     begin("the refusals of a trace");
     CHECK(is_count(tfk_frame_count(third, bytes, length), TFK_BAD_ARGUMENT, 0));
+    CHECK(is_mark(tfk_end_mark(third, bytes, length), TFK_BAD_ARGUMENT, 0));
     CHECK(is_line(tfk_line_place(ASKED(trace), 1), TFK_NOT_FOUND, 0, 0, 0));
     CHECK(is_place(tfk_registers_place(ASKED(trace), 2), TFK_NOT_FOUND, 0, 0));
     CHECK(no_block(tfk_block_record(ASKED(trace), 1, 2), TFK_NOT_FOUND));
@@ -57,14 +60,14 @@ static tfk_selection tens(size_t count, uint8_t keep)
     return selection;
 }
 
-/* Frames numbered 0 to 89, without data: of each ten, from 10 on, three are in a range. */
+/* Frames numbered 1 to 90, without data: of each ten, from 10 on, three are in a range. */
 static void selected(void)
 {
     enum { FRAMES = 90, FRAME = 6 };
     made file = {0, 0, {0}};
     PUT(&file, BARE);
     size_t opening = file.length;
-    for (size_t n = 0; n < FRAMES; n++) {
+    for (size_t n = 1; n <= FRAMES; n++) {
         put_number(&file, n, 2);
         put_number(&file, 0, 4);
     }

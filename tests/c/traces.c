@@ -6,7 +6,7 @@
 
 static void add(small_trace *trace, size_t from, uint8_t refusal, size_t frames)
 {
-    step next = {from, refusal, frames};
+    step next = {from, refusal, frames, 0};
     trace->steps[trace->step_count++] = next;
 }
 
@@ -34,6 +34,25 @@ static void frame(small_trace *trace, uint16_t tracepoint, uint32_t size, size_t
         add(trace, at + 6, TFK_DATA_PAST_FILE, 0);
     }
     add(trace, at + 6 + size, 0, before + 1);
+}
+
+/* These bytes behind so many frames. They begin with two bytes of 0: only four of 0 up to the end are the end mark. */
+static void ending(small_trace *trace, const char *bytes, size_t length, size_t frames)
+{
+    size_t at = trace->file.length;
+    put(&trace->file, bytes, length);
+    add(trace, at + 1, TFK_SHORT_HEAD, 0);
+    add(trace, at + 2, TFK_BAD_MARK, 0);
+    if (memcmp(bytes, "\0\0\0\0", MARK) == 0) {
+        add(trace, at + MARK, 0, frames);
+        trace->steps[trace->step_count - 1].marked = 1;
+        add(trace, at + MARK + 1, TFK_BAD_MARK, 0);
+    }
+}
+
+static void mark(small_trace *trace, size_t frames)
+{
+    ending(trace, "\0\0\0\0", MARK, frames);
 }
 
 static void memory(small_trace *trace, uint64_t address, uint16_t length)
@@ -80,10 +99,27 @@ static const struct {
     {"a register size of six digits", "R 000001\n", 17},
 };
 
+/* What stands behind one frame and begins as the end mark does. Two are a frame of number 0 with data, in one order. */
+static const struct {
+    const char *name;
+    size_t length;
+    const char *bytes;
+} ENDINGS[] = {
+    {"the end mark and bytes of 0", 7, "\0\0\0\0\0\0\0"},
+    {"the end mark and a byte more", 5, "\0\0\0\0\1"},
+    {"the end mark and a frame", 10, "\0\0\0\0\1\1\0\0\0\0"},
+    {"00 00 01 00", 4, "\0\0\1\0"},
+    {"00 00 00 01", 4, "\0\0\0\1"},
+    {"number 0 with data, little", 9, "\0\0\3\0\0\0RMM"},
+    {"number 0 with data, big", 9, "\0\0\0\0\0\3RMM"},
+    {"number 0 with data past the file", 6, "\0\0\1\1\1\1"},
+};
+
 enum {
     ONE_FRAMES = sizeof ONE_FRAME / sizeof *ONE_FRAME,
     REFUSED = sizeof REFUSED_LINES / sizeof *REFUSED_LINES,
-    OTHERS = EVERY_BLOCK + 1
+    ALL_ENDINGS = sizeof ENDINGS / sizeof *ENDINGS,
+    OTHERS = MARK_AFTER_ZEROS + 1
 };
 
 static void one_frame(small_trace *trace, size_t i)
@@ -101,6 +137,13 @@ static void refused_line(small_trace *trace, size_t i)
     open_with(trace, REFUSED_LINES[i].name, REFUSED_LINES[i].lines);
     trace->step_count--;
     add(trace, REFUSED_LINES[i].from, TFK_BAD_LINE, 0);
+}
+
+static void one_ending(small_trace *trace, size_t i)
+{
+    open_with(trace, ENDINGS[i].name, "R 2\n");
+    frame(trace, 1, 0, 0);
+    ending(trace, ENDINGS[i].bytes, ENDINGS[i].length, 1);
 }
 
 static void memory_at_the_top(small_trace *trace)
@@ -139,14 +182,43 @@ static void every_block(small_trace *trace)
     PUT(&trace->file, "RabcRdef");
 }
 
+static void mark_alone(small_trace *trace)
+{
+    open_with(trace, "the end mark after no frames", "R 2\ntp 1\n");
+    mark(trace, 0);
+}
+
+/* One of the number's two bytes is 0, the first in little order. */
+static void mark_after_256(small_trace *trace)
+{
+    open_with(trace, "the end mark after an empty frame of number 256", "");
+    frame(trace, 256, 0, 0);
+    mark(trace, 1);
+}
+
+static void mark_after_zeros(small_trace *trace)
+{
+    open_with(trace, "the end mark after data that end in zeros", "R 2\n");
+    frame(trace, 1, 3, 0);
+    PUT(&trace->file, "R\xaa\xbb");
+    frame(trace, 2, 31, 1);
+    PUT(&trace->file, "R\xcc\xdd");
+    variable(trace, 1, -1);
+    memory(trace, 0x4D, MARK);
+    fill_to(&trace->file, trace->file.length + MARK);
+    mark(trace, 2);
+}
+
 size_t small_traces(void)
 {
-    return OTHERS + ONE_FRAMES + REFUSED;
+    return OTHERS + ONE_FRAMES + REFUSED + ALL_ENDINGS;
 }
 
 small_trace small_trace_of(size_t i, uint8_t order)
 {
-    static void (*const OTHER[OTHERS])(small_trace *) = {memory_at_the_top, a_variable, numbers_1_2_1, every_block};
+    static void (*const OTHER[OTHERS])(small_trace *) = {
+        memory_at_the_top, a_variable, numbers_1_2_1, every_block, mark_alone, mark_after_256, mark_after_zeros,
+    };
     small_trace trace;
     memset(&trace, 0, sizeof trace);
     trace.file.order = order;
@@ -154,8 +226,10 @@ small_trace small_trace_of(size_t i, uint8_t order)
         OTHER[i](&trace);
     } else if (i < OTHERS + ONE_FRAMES) {
         one_frame(&trace, i - OTHERS);
-    } else {
+    } else if (i < OTHERS + ONE_FRAMES + REFUSED) {
         refused_line(&trace, i - OTHERS - ONE_FRAMES);
+    } else {
+        one_ending(&trace, i - OTHERS - ONE_FRAMES - REFUSED);
     }
     return trace;
 }

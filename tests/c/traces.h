@@ -7,23 +7,34 @@
 #define HEAD "\177TRACE0\n"
 #define BARE HEAD "\n"
 
-/* From this length on, up to the next step, the file is refused so or has so many frames. */
+/* From this length on, up to the next step, the file is refused so, or has so many frames and the end mark or not. */
 typedef struct {
     size_t from;
     uint8_t refusal;
     size_t frames;
+    uint8_t marked;
 } step;
 
 typedef struct {
     const char *name;
     made file;
     size_t opening;
-    step steps[9];
+    step steps[13];
     size_t step_count;
 } small_trace;
 
 /* Those that are asked more; others follow. */
-enum { MEMORY_AT_THE_TOP, A_VARIABLE, NUMBERS_1_2_1, EVERY_BLOCK, TWO_REGISTERS, NO_REGISTER_BYTES };
+enum {
+    MEMORY_AT_THE_TOP,
+    A_VARIABLE,
+    NUMBERS_1_2_1,
+    EVERY_BLOCK,
+    MARK_ALONE,
+    MARK_AFTER_256,
+    MARK_AFTER_ZEROS,
+    TWO_REGISTERS,
+    NO_REGISTER_BYTES
+};
 
 /* How many there are, and trace i in this byte order. */
 size_t small_traces(void);

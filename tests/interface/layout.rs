@@ -30,6 +30,7 @@ fn declared() -> Vec<String> {
     described! {
         tfk_settings Settings { order }
         tfk_count Count { refusal, count }
+        tfk_mark Mark { refusal, marked }
         tfk_place Place { refusal, place, length }
         tfk_line Line { refusal, kind, place, length }
         tfk_frame Frame { tracepoint, place, size }

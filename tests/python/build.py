@@ -4,6 +4,7 @@ HEAD = b'\x7fTRACE0\n'
 BARE = HEAD + b'\n'
 MAGIC = b'\x17\x08\x44'
 LIMIT = 67_108_864
+MARK = bytes(4)
 
 
 class GdbTrace:

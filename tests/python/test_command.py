@@ -5,7 +5,7 @@ import sys
 import tempfile
 import unittest
 
-from build import BIG, LIMIT, dat
+from build import BARE, BIG, LIMIT, MARK, dat
 from cases import Case
 from repository import EXPECTED, MODULE, ROOT
 
@@ -49,7 +49,12 @@ class Command(Case):
 
     def test_one_frame(self):
         ended = command('samples/board.tf', '--frame', '4')
-        self.assertEqual(ended.stdout, 'frames 6\n  frame 4: tracepoint 3, 15 bytes at 2713\n')
+        self.assertEqual(ended.stdout, 'frames 6, no end mark\n  frame 4: tracepoint 3, 15 bytes at 2713\n')
+
+    def test_the_end_mark(self):
+        self.shows('marked.txt', 'samples/marked.tf', '--frames')
+        self.assertEqual(command(self.made(BARE + MARK)).stdout, 'lines 0\nframes 0, then the end mark\n')
+        self.assertEqual(command(self.made(BARE)).stdout, 'lines 0\nframes 0, no end mark\n')
 
     def test_big(self):
         file = self.made(BIG.trace(['tp \\x\t\xff'], BIG.frame(1, BIG.memory(2 ** 64 - 1, bytes(range(17))),
@@ -67,6 +72,7 @@ class Command(Case):
         for words, text in (
                 ([self.made(b'')], 'refused 3: the head differs or is cut short'),
                 ([self.made(bytes(LIMIT + 2))], "refused 1: a file, or a join's result, is longer than 67,108,864 bytes"),
+                ([self.made(BARE + MARK + b'\0')], 'refused 18: a bad end mark'),
                 ([self.made(b'\x17\x08\x44')], 'refused 14: a trace.dat field or named piece runs past the file'),
                 ([board, '--dat'], 'refused 15: a trace.dat fixed string, flag, long size or page size is wrong'),
                 ([board, '--order', 'big'], "refused 7: a frame's data runs past the file")):
@@ -89,9 +95,11 @@ class Example(Case):
         ended = run('examples/v0.py', 'samples/masks.tf')
         self.assertEqual((ended.stdout, ended.stderr), ((ROOT / 'examples/v0.txt').read_text(), ''))
 
-    def test_the_sample_is_what_its_script_makes(self):
-        made = subprocess.run([sys.executable, 'tests/python/make_masks.py'], cwd=ROOT, capture_output=True).stdout
-        self.assertEqual(made, (ROOT / 'samples/masks.tf').read_bytes())
+    def test_the_samples_are_what_their_scripts_make(self):
+        for name in ('masks', 'marked'):
+            words = [sys.executable, f'tests/python/make_{name}.py']
+            made = subprocess.run(words, cwd=ROOT, capture_output=True).stdout
+            self.assertEqual(made, (ROOT / f'samples/{name}.tf').read_bytes(), name)
 
     def test_another_register_size(self):
         ended = run('examples/v0.py', 'samples/two-registers.tf')

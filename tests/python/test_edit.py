@@ -1,9 +1,9 @@
 """Cuts, joins and pairs."""
 import unittest
 
-from build import BARE, BIG, LITTLE
+from build import BARE, BIG, LITTLE, MARK
 from cases import Case
-from tufakpeni import Pair, Selection, Trace, _library, cut, join
+from tufakpeni import Pair, Selection, Trace, _library, cut, join, join_into
 
 LINES = ['R 2', 'tp T1']
 
@@ -11,7 +11,7 @@ LINES = ['R 2', 'tp T1']
 class Cuts(Case):
     def setUp(self):
         self.frames = [LITTLE.frame(n, LITTLE.registers(bytes([n, i])), LITTLE.variable(i, -i))
-                       for i, n in enumerate((1, 2, 1, 0, 9, 2))]
+                       for i, n in enumerate((1, 2, 1, 30, 9, 2))]
 
     def cut(self, *arguments):
         return cut(LITTLE.trace(LINES, *self.frames), Selection(*arguments))
@@ -40,6 +40,14 @@ class Cuts(Case):
         file, chosen = LITTLE.trace(LINES, *self.frames), Selection([(1, 1), (9, 9)])
         lengths = [len(cut(file, selection)) for selection in (chosen, chosen.opposite())]
         self.assertEqual(sum(lengths), len(file) + len(LITTLE.trace(LINES)))
+
+
+    def test_the_end_mark_is_kept(self):
+        file = LITTLE.trace(LINES, *self.frames) + MARK
+        for selection, chosen in (([(1, 1)], (0, 2)), ([(0, 65535)], range(6)), ([], ()), ([(0, 0)], ())):
+            self.assertEqual(cut(file, Selection(selection)), self.of(*chosen) + MARK)
+        lengths = [len(cut(file, Selection([(1, 1)], keep))) for keep in (True, False)]
+        self.assertEqual(sum(lengths), len(file) + len(LITTLE.trace(LINES)) + len(MARK))
 
 
 class Selections(Case):
@@ -74,6 +82,25 @@ class Joins(Case):
     def test_the_bare_opening(self):
         file = LITTLE.trace([], LITTLE.frame(1))
         self.assertEqual([join(file, BARE), join(BARE, file), join(BARE, BARE)], [file, file, BARE])
+
+
+    def test_one_end_mark(self):
+        for made in (LITTLE, BIG):
+            frames = made.frame(3, made.variable(1, 0)), made.frame(4, made.variable(1, 0))
+            first, second = (made.trace(LINES, frame) for frame in frames)
+            both = made.trace(LINES, *frames)
+            for marks, joined in (((b'', b''), both), ((MARK, b''), both + MARK), ((b'', MARK), both + MARK),
+                                  ((MARK, MARK), both + MARK)):
+                self.assertEqual(join(first + marks[0], second + marks[1], made.order), joined)
+                output = bytearray(len(joined) - 1)
+                self.refused(11, join_into, output, first + marks[0], second + marks[1], made.order)
+                pair = Pair(first + marks[0], second + marks[1], made.order)
+                self.assertEqual([bytes(pair.frame(n).data) for n in (0, 1)], [frame[6:] for frame in frames])
+                self.refused(12, pair.frame, 2)
+
+    def test_the_marked_bare_opening_is_no_unit(self):
+        file = LITTLE.trace([], LITTLE.frame(1))
+        self.assertEqual([join(file, BARE + MARK), join(BARE + MARK, file)], [file + MARK] * 2)
 
 
 class Pairs(Case):

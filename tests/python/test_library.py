@@ -17,7 +17,7 @@ TYPES = {
     'int64_t': ctypes.c_int64, 'size_t': ctypes.c_size_t,
 }
 STRUCTS = {
-    'settings': 'Settings', 'count': 'Count', 'place': 'Place', 'line': 'Line', 'frame': 'FrameRecord',
+    'settings': 'Settings', 'count': 'Count', 'mark': 'Mark', 'place': 'Place', 'line': 'Line', 'frame': 'FrameRecord',
     'block': 'Block', 'value': 'Value', 'range': 'Range', 'selection': 'Selection', 'length': 'Length',
     'pair_part': 'PairPart', 'part': 'Part', 'dat_summary': 'Summary', 'cpu_range': 'CpuRange',
 }

@@ -3,7 +3,7 @@ import pickle
 import re
 import unittest
 
-from build import BARE, BIG, HEAD, LIMIT, LITTLE, dat
+from build import BARE, BIG, HEAD, LIMIT, LITTLE, MARK, dat
 from cases import Case
 from repository import ROOT
 from tufakpeni import Pair, Refusal, Refused, Selection, Trace, TraceDat, cut, cut_into, join, join_into
@@ -11,10 +11,20 @@ from tufakpeni import Pair, Refusal, Refused, Selection, Trace, TraceDat, cut, c
 FRAME = LITTLE.frame(1, LITTLE.variable(1, 2))
 
 
+def long_trace(length):
+    """A trace of exactly this length, of one frame."""
+    block = LITTLE.memory(0, bytes(65535))
+    whole, rest = divmod(length - len(BARE) - 6, len(block))
+    return LITTLE.trace([], LITTLE.frame(1, *[block] * whole, LITTLE.memory(0, bytes(rest - 11))))
+
+
 class Table(Case):
     def test_sentences_are_the_papers(self):
-        paper = (ROOT / 'docs/papers/01-scope.md').read_text()
-        rows = re.findall(r'^\| (\d+) \| (.*) \|$', paper, re.M)
+        """Document 01's table, and then the rows of document 02's requests that have landed."""
+        scope = (ROOT / 'docs/papers/01-scope.md').read_text()
+        requests = (ROOT / 'docs/papers/02-change-requests.md').read_text()
+        rows = re.findall(r'^\| (\d+) \| (.*) \|$', scope, re.M)
+        rows += re.findall(r'^\*\*C-11\..* Refusals: (\d+), ([^,]+),', requests, re.M)
         self.assertEqual([(int(number), reason) for number, reason in rows],
                          [(refusal.value, refusal.reason) for refusal in Refusal])
 
@@ -46,6 +56,11 @@ class Files(Case):
         (9, LITTLE.trace([], LITTLE.frame(1, b'M' + bytes(8) + b'\1\0'))),
         (9, LITTLE.trace([], LITTLE.frame(1, b'V' + bytes(11)))),
         (10, BARE + bytes.fromhex('01 00 01 00 00 00 52')),
+        (6, BARE + b'\0'), (6, LITTLE.trace([], FRAME) + b'\0'), (18, BARE + bytes(2)), (18, BARE + bytes(3)),
+        (18, BARE + MARK + b'\0'), (18, BARE + MARK + b'\1'), (18, BARE + MARK + FRAME), (18, BARE + MARK + MARK),
+        (18, BARE + bytes.fromhex('00 00 01 00')), (18, BARE + bytes.fromhex('00 00 00 01')),
+        (18, LITTLE.trace([], LITTLE.frame(0))), (18, LITTLE.trace([], FRAME, LITTLE.frame(0, LITTLE.variable(1, 2)))),
+        (18, BARE + bytes.fromhex('00 00 ff ff ff ff')), (18, LITTLE.trace([], FRAME) + bytes(3)),
     ]
 
     def test_every_call(self):
@@ -59,21 +74,30 @@ class Files(Case):
                     self.refused(number, Pair, *pair)
 
     def test_big(self):
-        for number, file in ((6, BARE + bytes(5)), (7, BIG.trace([], FRAME)), (8, BIG.trace([], BIG.frame(1, b'x'))),
-                             (9, BIG.trace(['R 2'], BIG.frame(1, b'R\xaa'))), (10, BIG.trace([], BIG.frame(1, b'R')))):
+        for number, file in ((6, BARE + b'\0\1\0\0\0'), (6, BARE + b'\0'), (7, BIG.trace([], FRAME)),
+                             (8, BIG.trace([], BIG.frame(1, b'x'))), (9, BIG.trace(['R 2'], BIG.frame(1, b'R\xaa'))),
+                             (10, BIG.trace([], BIG.frame(1, b'R'))), (18, BARE + bytes(2)), (18, BARE + bytes(5)),
+                             (18, BARE + b'\0\0\1\0'), (18, BIG.trace([], BIG.frame(0, BIG.variable(1, 2))))):
             self.refused(number, Trace, file, 'big')
 
     def test_the_longest_file(self):
-        block = LITTLE.memory(0, bytes(65535))
-        whole, rest = divmod(LIMIT - len(BARE) - 6, len(block))
-        last = LITTLE.memory(0, bytes(rest - 11))
-        file = LITTLE.trace([], LITTLE.frame(1, *[block] * whole, last))
+        file = long_trace(LIMIT)
         self.assertEqual(len(file), LIMIT)
         self.assertEqual(Trace(file).frame(0).size, LIMIT - 15)
         one_more = LITTLE.trace([], LITTLE.frame(1))
         self.refused(1, join, file, one_more)
         self.refused(1, Pair, file, one_more)
         self.assertEqual(len(join(file, BARE)), LIMIT)
+
+    def test_the_longest_marked_file(self):
+        """The mark alone takes a join over the limit, and where both traces have one it counts once."""
+        marked, longer = long_trace(LIMIT - len(MARK)) + MARK, long_trace(LIMIT - len(MARK) + 1)
+        self.assertEqual((len(marked), len(Trace(marked)), Trace(marked).marked), (LIMIT, 1, True))
+        self.assertEqual(join(marked, BARE + MARK), marked)
+        self.assertEqual(join(longer, BARE), longer)
+        for call in (join, Pair):
+            self.refused(1, call, longer, BARE + MARK)
+            self.refused(13, call, longer, LITTLE.trace(['tp']) + MARK)
 
 
 class Arguments(Case):

@@ -2,7 +2,7 @@
 import unittest
 from unittest import mock
 
-from build import BARE, BIG, HEAD, LITTLE
+from build import BARE, BIG, HEAD, LITTLE, MARK
 from cases import Case
 from repository import ROOT
 from tufakpeni import Memory, Registers, Trace, Variable, _library
@@ -51,9 +51,9 @@ class Frames(Case):
     def test_table(self):
         for made in BOTH:
             trace = Trace(made.trace(['R 2'], made.frame(65535, made.registers(b'AB'), made.registers(b'CD')),
-                                     made.frame(0), made.frame(7, made.memory(1, b'xyz'))), made.order)
+                                     made.frame(256), made.frame(7, made.memory(1, b'xyz'))), made.order)
             self.assertEqual([(f.number, f.tracepoint, f.place, f.size) for f in trace],
-                             [(0, 65535, 19, 6), (1, 0, 31, 0), (2, 7, 37, 14)])
+                             [(0, 65535, 19, 6), (1, 256, 31, 0), (2, 7, 37, 14)])
             self.assertEqual(bytes(trace.frame(0).data), b'RABRCD')
             self.assertEqual(repr(trace.frame(2)), '<frame 2: tracepoint 7, 14 bytes at 37>')
 
@@ -71,6 +71,33 @@ class Frames(Case):
         for ask in (lambda: frame.data, lambda: frame.blocks, lambda: frame.variable(1), lambda: trace.lines):
             self.assertRaises(ValueError, ask)
         self.assertEqual(data[0], ord('V'))
+
+
+class Marks(Case):
+    def test_marked_and_not(self):
+        for made in BOTH:
+            for frames in ((), (made.frame(1),), (made.frame(256), made.frame(256, made.variable(1, 0)))):
+                file = made.trace(['R 2', 'tp T1'], *frames)
+                for mark in (b'', MARK):
+                    with self.subTest(order=made.order, frames=len(frames), mark=mark):
+                        trace = Trace(file + mark, made.order)
+                        self.assertEqual((trace.marked, len(trace)), (mark == MARK, len(frames)))
+                        self.assertEqual(bytes(trace.opening), made.trace(['R 2', 'tp T1']))
+                        self.assertEqual([bytes(line.data) for line in trace.lines], [b'R 2', b'tp T1'])
+
+    def test_the_last_frame_ends_before_the_mark(self):
+        for made in BOTH:
+            blocks = made.registers(b'ab'), made.variable(1, 0), made.memory(16, bytes(4))
+            last = Trace(made.trace(['R 2'], made.frame(1), made.frame(2, *blocks)) + MARK, made.order).frame(1)
+            self.assertEqual(bytes(last.data), b''.join(blocks))
+            self.assertEqual(last.blocks, [Registers(25, b'ab'), Variable(28, 1, 0), Memory(41, 16, 4, bytes(4))])
+            self.assertEqual((bytes(last.registers), last.variable(1), bytes(last.memory(18))), (b'ab', 0, bytes(2)))
+            self.refused(12, last.memory, 20)
+
+    def test_closed(self):
+        with Trace(BARE + MARK) as trace:
+            self.assertTrue(trace.marked)
+        self.assertRaises(ValueError, lambda: trace.marked)
 
 
 class Blocks(Case):

@@ -1,8 +1,8 @@
 """Traces that gdb saved, held against what gdb itself reads in them.
 
-As gdb saves them the library refuses them, as document 02 explains: the R line is hexadecimal (C-18), and four zero
-bytes end the file (C-11). With the R line in decimal and these bytes cut off they are read, and every line, frame,
-block, register byte, memory byte and variable is compared."""
+As gdb saves them the library refuses them, as document 02 explains: the R line is hexadecimal (C-18). With that line in
+decimal they are read whole, and every line, frame, block, register byte, memory byte and variable is compared, and
+whether the end mark is there."""
 import collections
 import hashlib
 import json
@@ -17,30 +17,33 @@ HEAD = 8
 MARK = bytes(4)
 
 HEXADECIMAL = Refusal.BAD_LINE      # `R 9c4`, `R 34c`, `R 2e8`: a letter is no decimal digit
-END_MARK = Refusal.SHORT_HEAD       # four bytes where a frame head of six should start
 BROKEN = Refusal.BAD_LETTER         # the frame that the stub broke starts with a 00 where a letter should be
+ZERO = Refusal.BAD_MARK             # a head of number 0, with frames behind it
 READ = None
 
-# Each file: as saved; with the R line in decimal; without the end mark too.
+# Each file: as saved; with the R line in decimal.
 REFUSALS = {
-    'badmem': (HEXADECIMAL, END_MARK, READ),
-    'bare': (HEXADECIMAL, END_MARK, READ),
-    'circular': (HEXADECIMAL, BROKEN, BROKEN),
-    'empty': (HEXADECIMAL, END_MARK, READ),
-    'full': (HEXADECIMAL, END_MARK, READ),
-    'i386': (HEXADECIMAL, END_MARK, READ),
-    'mem': (HEXADECIMAL, END_MARK, READ),
-    'passcount': (HEXADECIMAL, END_MARK, READ),
-    'raw': (HEXADECIMAL, END_MARK, READ),
-    'regs': (HEXADECIMAL, END_MARK, READ),
-    'resave': (HEXADECIMAL, READ, READ),        # gdb failed half way and wrote no mark
-    's390x': (HEXADECIMAL, END_MARK, READ),
-    's390x-empty': (HEXADECIMAL, END_MARK, READ),
-    'step': (HEXADECIMAL, END_MARK, READ),
-    'tsv': (HEXADECIMAL, END_MARK, READ),
-    'tworegs-merged': (HEXADECIMAL, END_MARK, READ),
-    'zeronum': (HEXADECIMAL, END_MARK, READ),   # number 0 is a number like any other until C-11
+    'badmem': (HEXADECIMAL, READ),
+    'bare': (HEXADECIMAL, READ),
+    'circular': (HEXADECIMAL, BROKEN),
+    'empty': (HEXADECIMAL, READ),
+    'full': (HEXADECIMAL, READ),
+    'i386': (HEXADECIMAL, READ),
+    'mem': (HEXADECIMAL, READ),
+    'passcount': (HEXADECIMAL, READ),
+    'raw': (HEXADECIMAL, READ),
+    'regs': (HEXADECIMAL, READ),
+    'resave': (HEXADECIMAL, READ),
+    's390x': (HEXADECIMAL, READ),
+    's390x-empty': (HEXADECIMAL, READ),
+    'step': (HEXADECIMAL, READ),
+    'tsv': (HEXADECIMAL, READ),
+    'tworegs-merged': (HEXADECIMAL, READ),
+    'zeronum': (HEXADECIMAL, ZERO),
 }
+
+# gdb failed half way and wrote no mark.
+UNMARKED = {'resave'}
 
 # The head of the frame that gdbserver broke, as saved: gdb reads the five frames before it.
 CIRCULAR_BROKEN_AT = 29_678
@@ -59,10 +62,6 @@ def decimal(file):
     """The file with its R line, which gdb writes first, in decimal."""
     line, rest = file[HEAD:].split(b'\n', 1)
     return file[:HEAD] + b'R %d\n' % int(line[len('R '):], 16) + rest
-
-
-def unmarked(file):
-    return file[:-len(MARK)] if file.endswith(MARK) else file
 
 
 def shape(block):
@@ -146,12 +145,15 @@ def compare_variables(trace, expected):
 
 
 def test_read(report, name, file, grown=None):
-    """A file that is read, against gdb. `grown` is how much longer its R line is now; without it no facts are held."""
+    """A file that is read, against gdb. `grown` is how much longer its R line is now; without it, for a part of a
+    file, no facts are held."""
     expected = [row for row in rows(name, 'gdb') if 'frame' in row]
     trace = Trace(file, FACTS[name]['order'])
     if grown is not None:
         with report.case(f'{name}: lines, opening and blocks'):
             compare_description(trace, FACTS[name], grown)
+        with report.case(f'{name}: the end mark'):
+            same(trace.marked, name not in UNMARKED)
     for what, compare in (('frames', compare_frames), ('memory', compare_memory), ('variables', compare_variables)):
         with report.case(f'{name}: {what}'):
             compare(trace, expected)
@@ -166,27 +168,28 @@ def test_saved(report, name, saved):
         same((len(saved), hashlib.sha256(saved).hexdigest()), (facts['bytes'], facts['sha256']))
         same(saved[HEAD:].split(b'\n', 1)[0].decode(), facts['register_line'])
     with report.case(f'{name}: refusals'):
-        forms = (saved, decimal(saved), unmarked(decimal(saved)))
+        forms = (saved, decimal(saved))
         same(tuple(refusal(form, facts['order']) for form in forms), REFUSALS[name])
-        same(saved.endswith(MARK), name != 'resave', 'end mark')
+        same(saved.endswith(MARK), name not in UNMARKED, 'four bytes of 0')
 
 
 def test_two_values(report):
     """In tsv.tf a variable is collected before and after a step, so that earliest and last differ."""
     with report.case('tsv: earliest and last'):
-        trace = Trace(unmarked(decimal((FOLDER / 'tsv.tf').read_bytes())))
+        trace = Trace(decimal((FOLDER / 'tsv.tf').read_bytes()))
         pairs = [[block.value for block in frame.blocks if shape(block) == 'V2'] for frame in trace]
         same(pairs, [[5, 6], [6, 7], [7, 8]])
         same([frame.variable(2) for frame in trace], [5, 6, 7])
 
 
 def test_zero_numbers(report, file):
-    """Tracepoint 65,536 was stored as number 0. gdb takes the first such head for the end mark and reads no frame;
-    document 01 has no end mark yet and reads all six, as many as gdb's own status line says."""
-    with report.case('zeronum: frames of number 0'):
-        trace, (summary,) = Trace(file), rows('zeronum', 'gdb')
-        same((summary['frames'], summary['status_frames']), (0, len(trace)))
-        same([(frame.tracepoint, frame.size) for frame in trace], [(0, 0), (9, 15)] * 3)
+    """Tracepoint 65,536 was stored as number 0. gdb takes the first such head for the end mark, whatever follows, and
+    reads no frame. Here what follows makes it a bad mark; up to there the file is read as gdb reads it."""
+    with report.case('zeronum: up to the first number 0'):
+        summary, = rows('zeronum', 'gdb')
+        opening = file.index(b'\n\n') + len(b'\n\n')
+        trace = Trace(file[:opening + len(MARK)])
+        same((len(trace), trace.marked), (summary['frames'], True))
 
 
 def test_forms(report, name):
@@ -198,9 +201,9 @@ def test_forms(report, name):
     if name == 'circular':
         test_read(report, name, file[:CIRCULAR_BROKEN_AT + grown])
     elif name == 'zeronum':
-        test_zero_numbers(report, unmarked(file))
+        test_zero_numbers(report, file)
     else:
-        test_read(report, name, unmarked(file), grown)
+        test_read(report, name, file, grown)
 
 
 def test(report):

@@ -6,10 +6,14 @@ import unittest
 from pathlib import Path
 
 from declared import LANGUAGES, declared_in, found
+from papers import LANDED
 from rules import OPEN, READ, ROOT, RULES, Rules, citations, faults
 
 # A sentence that is quoted as a whole.
 WHOLE = 'Size 0 is allowed.'
+
+# A request that has landed.
+REQUEST = 'C-11. Traces the debugger saved are refused.'
 
 
 class Spoiled(unittest.TestCase):
@@ -25,11 +29,11 @@ class Spoiled(unittest.TestCase):
         self.rules = Rules((ROOT / RULES).read_text())
         self.quotes = [entry for entry in self.rules.papers['01-scope.md'] if not entry.heading]
 
-    def told(self, landed=()):
+    def told(self, landed=LANDED):
         (self.root / RULES).write_text('\n'.join(self.lines) + '\n')
         return faults(self.root, landed)
 
-    def one(self, words, landed=()):
+    def one(self, words, landed=LANDED):
         """There is a fault, and the first has these words."""
         told = self.told(landed)
         self.assertTrue(told)
@@ -113,10 +117,14 @@ class Spoiled(unittest.TestCase):
 
     def test_a_sentence_that_still_waits(self):
         line = self.hold('- context: comes with C-14')
-        self.assertIn(f'{RULES}:{line}: C-14 has landed', self.told(landed=('C-14',)))
+        self.assertIn(f'{RULES}:{line}: C-14 has landed', self.told(landed=LANDED + ('C-14',)))
 
-    def test_a_landed_request(self):
-        self.one('the heading of 02-change-requests.md is to stand: C-11. Traces the debugger saved are refused.', ('C-11',))
+    def test_a_landed_request_that_is_missing(self):
+        del self.lines[self.lines.index(f'### {REQUEST}'):]
+        self.one(f'the heading of 02-change-requests.md is to stand: {REQUEST}')
+
+    def test_a_request_that_has_not_landed(self):
+        self.one(f'this is no further sentence of 02-change-requests.md: {REQUEST}', landed=())
 
     def test_a_changed_paper(self):
         paper = self.root / 'docs/papers/01-scope.md'

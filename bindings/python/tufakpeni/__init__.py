@@ -5,7 +5,7 @@
             print(frame.number, frame.tracepoint, frame.registers[264:280].hex())
 
 What is handed out are parts of the caller's bytes, not copies. A file or a question that the library refuses raises
-Refused, with the number and the sentence of document 01's table."""
+Refused, with the number and the sentence of document 01's table, or of document 02's requests."""
 from ._library import LibraryMissing, LibraryUnfit
 from .dat import CpuRange, Section, TraceDat
 from .edit import Selection, cut, cut_into, join, join_into

@@ -14,7 +14,7 @@ VARIABLE = 'TUFAKPENI_LIBRARY'
 NAME = 'libtufakpeni.so'
 
 # The number of the interface that is declared here, as include/tufakpeni.h had it.
-INTERFACE = 1
+INTERFACE = 2
 
 MAKE = f"""Make it in the repository's root by
     rt staticlib trace_c
@@ -39,6 +39,7 @@ def struct(name, **fields):
 
 Settings = struct('Settings', order=c_uint8)
 Count = struct('Count', refusal=c_uint8, count=c_size_t)
+Mark = struct('Mark', refusal=c_uint8, marked=c_uint8)
 Place = struct('Place', refusal=c_uint8, place=c_size_t, length=c_size_t)
 Line = struct('Line', refusal=c_uint8, kind=c_uint8, place=c_size_t, length=c_size_t)
 FrameRecord = struct('FrameRecord', tracepoint=c_uint16, place=c_size_t, size=c_size_t)
@@ -65,6 +66,7 @@ TRACES = (Settings, *BYTES, *BYTES)
 CALLS = {
     'tfk_interface': (c_uint64,),
     'tfk_frame_count': (Count, *TRACE),
+    'tfk_end_mark': (Mark, *TRACE),
     'tfk_frame_table': (Count, *TRACE, *BYTES),
     'tfk_line_place': (Line, *TRACE, c_size_t),
     'tfk_frame_place': (Place, *TRACE, c_size_t),

@@ -44,24 +44,26 @@ def _apart(output, *files):
 
 
 def cut_into(output, data, selection, order='little'):
-    """Writes the opening and every selected frame into a buffer. Answers the length; what is beyond stays unchanged."""
+    """Writes the opening and every selected frame into a buffer, and the end mark if the trace has one. Answers the
+    length; what is beyond stays unchanged."""
     with _apart(output, data) as (room, files):
         return ask('tfk_cut', settings(order), *files, selection.numbers(), room).length
 
 
 def join_into(output, first, second, order='little'):
-    """Writes the common opening and the frames of both traces into a buffer, as cut_into does."""
+    """Writes the common opening and the frames of both traces into a buffer, and one end mark if either has one, as
+    cut_into does."""
     with _apart(output, first, second) as (room, files):
         return ask('tfk_join', settings(order), *files, room).length
 
 
 def cut(data, selection, order='little'):
-    """The opening and every selected frame."""
+    """The opening, every selected frame, and the end mark if the trace has one."""
     return _filled(memoryview(data).nbytes, cut_into, data, selection, order)
 
 
 def join(first, second, order='little'):
-    """The common opening, the first trace's frames, then the second's."""
+    """The common opening, the first trace's frames, then the second's, and one end mark if either has one."""
     return _filled(memoryview(first).nbytes + memoryview(second).nbytes, join_into, first, second, order)
 
 

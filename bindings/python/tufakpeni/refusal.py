@@ -1,4 +1,4 @@
-"""The refusals: document 01's table, each number with its name and its sentence."""
+"""The refusals: document 01's table and what document 02 adds to it, each number with its name and its sentence."""
 import contextlib
 import enum
 
@@ -29,6 +29,7 @@ class Refusal(enum.IntEnum):
     BAD_CONSTANT = 15, 'a trace.dat fixed string, flag, long size or page size is wrong'
     BAD_RANGE = 16, "CPU count above 1,024; a CPU range misaligned, before the header's end or past the file"
     RANGES_OVERLAP = 17, 'two CPU ranges overlap'
+    BAD_MARK = 18, 'a bad end mark'
 
 
 class Refused(Exception):

@@ -8,6 +8,7 @@ from .refusal import Refusal, Refused, absence_passed
 
 KINDS = ('other', 'R', 'status', 'tp', 'tsv', 'tdesc')
 FRAME_HEAD = 6
+MARK = 4
 
 
 class Line(NamedTuple):
@@ -148,10 +149,18 @@ class Trace(Holder):
         return Frame(self, n, self._table[n])
 
     @property
+    def marked(self):
+        """Whether the end mark, four bytes of 0, stands behind the frames. Debuggers write it when all else is saved.
+        The answer takes a reading of the whole file."""
+        return bool(ask('tfk_end_mark', self._settings, *self._files).marked)
+
+    @property
     def opening(self):
         """The head and the description, with its empty line."""
         file, = self._files
-        return file[:self._table[0].place - FRAME_HEAD] if len(self) else file[:]
+        if len(self):
+            return file[:self._table[0].place - FRAME_HEAD]
+        return file[:len(file) - MARK] if self.marked else file[:]
 
     @property
     def lines(self):

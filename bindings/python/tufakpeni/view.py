@@ -29,7 +29,7 @@ def lines(trace):
 
 def frames(trace, chosen, details):
     """The chosen frames, each with what the functions `details` show of it."""
-    yield f'frames {len(trace)}'
+    yield f'frames {len(trace)}, {"then the end mark" if trace.marked else "no end mark"}'
     for frame in chosen:
         yield f'  frame {frame.number}: tracepoint {frame.tracepoint}, {frame.size} bytes at {frame.place}'
         for detail in details:

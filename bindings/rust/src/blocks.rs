@@ -33,7 +33,7 @@ pub(crate) struct Manner<'a> {
     pub register_line: &'a [u8],
 }
 
-/// The tracepoint number of a frame that is dressed: any would do, and this one has the same bytes in both orders.
+/// The tracepoint number of a frame that is dressed: any but 0 would do, and this one has the same bytes in both orders.
 const TRACEPOINT: [u8; 2] = [1, 1];
 
 impl Manner<'_> {

@@ -43,8 +43,8 @@ impl Selection {
     }
 }
 
-/// Writes the opening and every selected frame to `out`, and answers how many bytes that is. What stands behind them in `out`
-/// stays as it was; on a refusal all of it does.
+/// Writes the opening and every selected frame to `out`, and the end mark if the file has one, and answers how many bytes that is.
+/// What stands behind them in `out` stays as it was; on a refusal all of it does.
 ///
 /// ```
 /// use tufakpeni::{cut, Order, Refusal, Selection};
@@ -66,8 +66,8 @@ pub fn cut_to_vec(order: Order, file: &[u8], selection: &Selection) -> Result<Ve
     written(file.len(), |out| cut(order, file, selection, out))
 }
 
-/// Writes the common opening, the frames of the first trace and those of the second to `out`, and answers how many bytes
-/// that is. What stands behind them in `out` stays as it was; on a refusal all of it does.
+/// Writes the common opening, the frames of the first trace and those of the second to `out`, and one end mark if either trace has
+/// one, and answers how many bytes that is. What stands behind them in `out` stays as it was; on a refusal all of it does.
 ///
 /// ```
 /// use tufakpeni::{join, Order};

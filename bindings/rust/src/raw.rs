@@ -18,6 +18,12 @@ pub struct Count {
 }
 
 #[repr(C)]
+pub struct Mark {
+    refusal: u8,
+    pub marked: u8,
+}
+
+#[repr(C)]
 pub struct Place {
     refusal: u8,
     pub place: usize,
@@ -123,7 +129,7 @@ pub struct CpuRange {
 }
 
 /// The number of the interface that is declared here, as include/tufakpeni.h had it.
-const INTERFACE: u64 = 1;
+const INTERFACE: u64 = 2;
 
 extern "C" {
     fn tfk_interface() -> u64;
@@ -159,6 +165,7 @@ macro_rules! calls {
 
 calls! {
     fn tfk_frame_count(settings: Settings, file: *const u8, file_length: usize) -> Count;
+    fn tfk_end_mark(settings: Settings, file: *const u8, file_length: usize) -> Mark;
     fn tfk_frame_table(
         settings: Settings,
         file: *const u8,
@@ -232,7 +239,7 @@ macro_rules! answers {
     };
 }
 
-answers!(Count, Place, Line, Block, Value, Length, PairPart, DatSummary, CpuRange);
+answers!(Count, Mark, Place, Line, Block, Value, Length, PairPart, DatSummary, CpuRange);
 
 fn settings(order: Order) -> Settings {
     Settings { order: order.number() }
@@ -240,6 +247,10 @@ fn settings(order: Order) -> Settings {
 
 pub fn frame_count(order: Order, file: &[u8]) -> Result<Count, Refusal> {
     unsafe { tfk_frame_count(settings(order), file.as_ptr(), file.len()) }.answered()
+}
+
+pub fn end_mark(order: Order, file: &[u8]) -> Result<Mark, Refusal> {
+    unsafe { tfk_end_mark(settings(order), file.as_ptr(), file.len()) }.answered()
 }
 
 pub fn frame_table(order: Order, file: &[u8], out: &mut [Frame]) -> Result<Count, Refusal> {

@@ -2,7 +2,7 @@
 use std::error::Error;
 use std::fmt;
 
-/// Why a call does not answer, one case for each row of document 01's table.
+/// Why a call does not answer, one case for each row of document 01's table and for each that document 02 adds.
 ///
 /// ```
 /// use tufakpeni::{Order, Refusal, Trace};
@@ -25,7 +25,7 @@ pub enum Refusal {
     NoEmptyLine = 4,
     /// An ended `R ` line breaks its form, or there is a second `R ` or `status ` line.
     BadLine = 5,
-    /// 1 to 5 bytes remain where a frame head should start.
+    /// 1 to 5 bytes remain where a frame head should start, and do not begin with two bytes of 0.
     ShortHead = 6,
     /// A frame's data runs past the file.
     DataPastFile = 7,
@@ -49,11 +49,13 @@ pub enum Refusal {
     BadRange = 16,
     /// Two CPU ranges overlap.
     RangesOverlap = 17,
+    /// A bad end mark: two bytes of 0 where a frame head should start, and not exactly four of 0 from there to the file's end.
+    BadMark = 18,
 }
 
 impl Refusal {
     /// Every refusal, in the order of their numbers.
-    pub const ALL: [Refusal; 17] = [
+    pub const ALL: [Refusal; 18] = [
         Refusal::TooLong,
         Refusal::BadArgument,
         Refusal::BadHead,
@@ -71,9 +73,10 @@ impl Refusal {
         Refusal::BadConstant,
         Refusal::BadRange,
         Refusal::RangesOverlap,
+        Refusal::BadMark,
     ];
 
-    /// Its number, 1 to 17.
+    /// Its number, 1 to 18.
     pub fn number(self) -> u8 {
         self as u8
     }
@@ -84,7 +87,7 @@ impl Refusal {
         Refusal::ALL.get(row).copied()
     }
 
-    /// When it is given, in the words of document 01.
+    /// When it is given, in the words of documents 01 and 02.
     pub fn sentence(self) -> &'static str {
         match self {
             Refusal::TooLong => "a file, or a join's result, is longer than 67,108,864 bytes",
@@ -110,6 +113,7 @@ impl Refusal {
                 "CPU count above 1,024; a CPU range misaligned, before the header's end or past the file"
             }
             Refusal::RangesOverlap => "two CPU ranges overlap",
+            Refusal::BadMark => "a bad end mark",
         }
     }
 }

@@ -9,10 +9,14 @@ pub(crate) const HEAD: &[u8] = b"\x7fTRACE0\n";
 /// A tracepoint number and a size stand before a frame's data.
 const FRAME_HEAD: usize = 6;
 
+/// The end mark has so many bytes.
+const MARK: usize = 4;
+
 /// A GDB trace that was read whole and accepted.
 ///
 /// Opening it reads the file twice, makes the frame table and finds the R line. Each later question costs in the order of the
-/// frame, or of the description, that it is about.
+/// frame, or of the description, that it is about; only [`is_marked`](Trace::is_marked) reads the file again, and where there are no
+/// frames whatever asks for the opening, which is then all of the file but the mark.
 #[derive(Clone, Debug)]
 pub struct Trace<'a> {
     file: &'a [u8],
@@ -58,9 +62,26 @@ impl<'a> Trace<'a> {
     pub fn opening(&self) -> &'a [u8] {
         let end = match self.frames.first() {
             Some(frame) => frame.place - FRAME_HEAD,
+            None if self.is_marked() => self.file.len() - MARK,
             None => self.file.len(),
         };
         &self.file[..end]
+    }
+
+    /// Whether the end mark, four bytes of 0, stands behind its frames. Debuggers write it when all else is saved. The answer
+    /// costs a reading of the whole file.
+    ///
+    /// ```
+    /// use tufakpeni::{Order, Trace};
+    ///
+    /// let file = b"\x7fTRACE0\n\n\x01\0\0\0\0\0\0\0\0\0";
+    /// assert!(Trace::open(Order::Little, file)?.is_marked());
+    /// assert_eq!(Trace::open(Order::Little, file)?.frame_count(), 1);
+    /// assert!(!Trace::open(Order::Little, &file[..15])?.is_marked());
+    /// # Ok::<(), tufakpeni::Refusal>(())
+    /// ```
+    pub fn is_marked(&self) -> bool {
+        raw::end_mark(self.order(), self.file).expect("the file was accepted").marked == 1
     }
 
     /// The lines of the description, without the closing empty line.

@@ -56,3 +56,29 @@ module _ (w before out : List ℕ) (len : ℕ) (el : length w ≡ len) (e : out 
         ap₂ (λ x z. x ++ (ys ++ z)) (ap (take len) e ∙ take-at w (drop len before) len el)
         (drop-of-length-le (drop len out) {i = length out - len} (omega (arith, length-drop len out)))
         ∙ ap (λ x. w ++ x) (append-nil ys ∙ new) ∙ sym (append-assoc w f (drop (len + r) before))
+
+-- ---- the same as one record
+
+-- w was written over the front of `before`, r bytes of it, and behind it stands what stood there
+pub record Overwritten (w before : List ℕ) (r : ℕ) (after : List ℕ) : Type 0 where
+  pub long : r ≡ length w
+  pub bytes : after ≡ w ++ drop r before
+
+pub copied-over : {c before after : List ℕ} {r : ℕ} → r ≡ length c → after ≡ take (length c) c ++ drop (length c) before → Overwritten c before r after
+copied-over {c} {before} {after} {r} er e = record { long = er; bytes = first-over c before after r er e }
+
+module _ {w before out : List ℕ} {len : ℕ} (o : Overwritten w before len out) where
+  -- the output is as long as it was
+  pub over-long : len ≤ length before → length out ≡ length before
+  over-long h = out-long w before out len (sym (o .long)) (o .bytes) h
+
+  -- and f behind w
+  pub over-more : {f ys : List ℕ} {r : ℕ} → Overwritten f (take (length out - len) (drop len out)) r ys
+      → Overwritten (w ++ f) before (len + r) (putMid len (length out - len) out ys)
+  over-more {f} {ys} {r} p =
+      let e : ys ≡ take (length f) f ++ drop (length f) (take (length out - len) (drop len out)) =
+      p .bytes ∙ ap₂ (λ x n. x ++ drop n (take (length out - len) (drop len out))) (sym (take-length f)) (p .long) in
+      record {
+        long = sym (more-long w before out len (sym (o .long)) (o .bytes) f ys r (p .long) e);
+        bytes = more-out w before out len (sym (o .long)) (o .bytes) f ys r (p .long) e;
+      }

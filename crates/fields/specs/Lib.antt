@@ -6,6 +6,7 @@ pub mod Answer
 pub mod Reader
 pub mod Takes
 pub mod Exact
+pub mod Until
 pub mod At
 pub mod Got
 pub mod Output

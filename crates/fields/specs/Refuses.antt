@@ -3,7 +3,10 @@
 use mathlib.Core.Path.{_≡_, refl, sym, subst}
 use mathlib.Core.Logic.{_↔_}
 use mathlib.Core.Bool.{Bool, true, false, cond, _||_}
+use mathlib.Core.Option.{Option, none, some}
 use Prim.Native.Nat.{ℕ, zero, suc, _<_}
+use native.Mathlib.Nat.{le-refl}
+use native.Mathlib.Omega.{arith}
 use mathlib.Core.List.{List, [], _∷_}
 use lib.ListN.{length}
 use lib.Dec.{T, leb, eqb}
@@ -11,7 +14,9 @@ use borrow.Author.Tests.{eqb-true, leb-false, lt-leb}
 use Rattle.refusals.specs.Refusal.{limit, tooLong, noRoom}
 use Rattle.fields.specs.Lists.{Each}
 use Rattle.fields.specs.Answer.{Answer, accepted, refused, next, never}
-use Rattle.fields.specs.Reader.{Reader, _>>=_, give, refuse, bytes, num, filling, toEndF, toEnd}
+use Rattle.fields.specs.Reader.{Reader, _>>=_, give, refuse, bytes, num, filling, toEndF, toEnd, endOr, until}
+use Rattle.fields.specs.Takes.{Shorter}
+use Rattle.fields.specs.Until.{until-step}
 use Rattle.fields.specs.Output.{fitting, answer}
 use Rattle.fields.specs.declared.Order.{Order}
 
@@ -53,9 +58,12 @@ module _ {P : ℕ → Type 0} where
   refuses-cond true h g = h
   refuses-cond false h g = g
 
+  refuses-after : {A B : Type 0} {x : Answer A} {f : A → Answer B} → Refuses P x → ((a : A) → x ≡ accepted a → Refuses P (f a)) → Refuses P (next x f)
+  refuses-after {x = accepted a} h g = g a refl
+  refuses-after {x = refused k} h g = refuses-with (h .only k refl)
+
   pub refuses-next : {A B : Type 0} {x : Answer A} {f : A → Answer B} → Refuses P x → ((a : A) → Refuses P (f a)) → Refuses P (next x f)
-  refuses-next {x = accepted a} h g = g a
-  refuses-next {x = refused k} h g = refuses-with (h .only k refl)
+  refuses-next h g = refuses-after h (λ a e. g a)
 
   -- the same by another P, which holds of every number of the list
   pub refuses-in : {A : Type 0} (ns : List ℕ) {x : Answer A} → Each P ns → Refuses (OneOf ns) x → Refuses P x
@@ -107,6 +115,20 @@ module _ {P : ℕ → Type 0} where
       by zero b = refuses-never
       by (suc n) [] = refuses-never
       by (suc n) (x ∷ xs) = refuses-next (h .reading (x ∷ xs)) (λ r. refuses-next (by n (r .1)) (λ l. refuses-never))
+
+  refuses-end : {A E : Type 0} (x : Option E) {y : Answer (List A × E)} → Refuses P y → Refuses P (endOr x y)
+  refuses-end (some e) h = refuses-never
+  refuses-end none h = h
+
+  pub refuses-until : {A E : Type 0} (ends : List ℕ → Option E) {p : Reader A} → Shorter p → Refusing P p → (b : List ℕ) → Refuses P (until ends p b)
+  refuses-until ends {p} short h b = by (suc (length b)) b (le-refl (suc (length b)))
+    where
+      by : (n : ℕ) (b : List ℕ) → length b < n → Refuses P (until ends p b)
+      by zero b k = absurd (omega arith)
+      by (suc n) b k =
+          subst (Refuses P) (sym (until-step ends p short b))
+          (refuses-end (ends b) (refuses-after (h .reading b) (λ r e.
+          refuses-next (by n (r .1) (omega (arith, k, short b (r .0) (r .1) e))) (λ q. refuses-never))))
 
   pub refusing-filling : {A : Type 0} {p : Reader A} (d : List ℕ) → Refusing P p → Refusing P (filling d p)
   refusing-filling d h = record { reading = λ b. refuses-next (refuses-to-end h d) (λ l. refuses-never) }

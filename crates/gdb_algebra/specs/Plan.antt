@@ -2,15 +2,15 @@
 -- A cut or join of an earlier result is given that output up to the returned length.
 -- Assumes nothing: these are definitions.
 use mathlib.Core.Path.{_≡_}
-use mathlib.Core.Bool.{true}
+use mathlib.Core.Bool.{true, false}
 use Prim.Native.Nat.{ℕ, _≤_}
-use mathlib.Core.List.{List, []}
+use mathlib.Core.List.{List, [], _++_}
 use lib.ListN.{length, take}
 use Rattle.refusals.specs.Refusal.{limit}
 use Rattle.fields.specs.Number.{Bytes}
 use Rattle.fields.specs.Answer.{Answer, accepted, refused}
 use Rattle.fields.specs.Output.{answer, exit}
-use Rattle.gdb_format.specs.Trace.{Trace, traceOf, opening, encode}
+use Rattle.gdb_format.specs.Trace.{Trace, traceOf, opening, mark, encode}
 use Rattle.gdb_format.specs.Decode.{read}
 use Rattle.gdb_format.specs.declared.Settings.{Settings}
 use Rattle.gdb_format.specs.declared.Format.{Format}
@@ -44,9 +44,13 @@ IsWritten (refused n) = ⊥
 abbrev pub HasRoom : Answer (List ℕ) → List ℕ → Type 0
 HasRoom x out = (c : List ℕ) → x ≡ accepted c → length c ≤ length out
 
--- the opening alone, as a file
+-- the opening alone, unmarked, as a file
 abbrev pub bareOpening : List (List ℕ) → Plan
-bareOpening ls = file (opening ls) (traceOf ls [])
+bareOpening ls = file (opening ls) (traceOf ls [] false)
+
+-- the same with a mark
+abbrev pub markedOpening : List (List ℕ) → Plan
+markedOpening ls = file (opening ls ++ mark) (traceOf ls [] true)
 
 module _ (s : Settings) where
   -- the bytes that a plan's last call leaves, up to the returned length

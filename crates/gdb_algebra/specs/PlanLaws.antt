@@ -1,15 +1,18 @@
 -- A plan whose premises hold goes through, and leaves the file of the trace that it stands for. So plans of one trace leave the same bytes.
 -- Assumes nothing.
 use mathlib.Core.Path.{_≡_, refl, sym, ap, _∙_, subst}
-use Prim.Native.Nat.{ℕ}
-use mathlib.Core.List.{List, []}
-use lib.ListN.{length, drop}
+use mathlib.Core.Bool.{true, false}
+use Prim.Native.Nat.{ℕ, _+_, _≤_}
+use native.Mathlib.Omega.{arith}
+use mathlib.Core.List.{List, [], _∷_, _++_}
+use lib.ListN.{length, drop, length-append}
 use lib.Seq.{take-at}
 use borrow.Author.Tests.{le-leb}
+use Rattle.refusals.specs.Refusal.{limit}
 use Rattle.fields.specs.Number.{Bytes, bytes-front}
 use Rattle.fields.specs.Answer.{Answer, accepted, refused, next}
 use Rattle.fields.specs.Output.{fitting, over, answer, exit}
-use Rattle.gdb_format.specs.Trace.{traceOf, opening, encode}
+use Rattle.gdb_format.specs.Trace.{traceOf, opening, mark, encode}
 use Rattle.gdb_format.specs.Settings.{settingsOf}
 use Rattle.gdb_format.specs.Decode.{read}
 use Rattle.gdb_format.specs.Exactness.{read-exactness}
@@ -21,7 +24,7 @@ use Rattle.gdb_cut.specs.Cut.{cut, cutOf}
 use Rattle.gdb_cut.specs.CutLaws.{layout-cut, cut-call}
 use Rattle.gdb_join.specs.Join.{join, bare, joinOf}
 use Rattle.gdb_join.specs.JoinTraces.{layout-join, layout-bare, encode-bare, join-call}
-use Rattle.gdb_algebra.specs.Plan.{Plan, file, cutting, joining, value, upTo, IsWritten, HasRoom, bareOpening}
+use Rattle.gdb_algebra.specs.Plan.{Plan, file, cutting, joining, value, upTo, IsWritten, HasRoom, bareOpening, markedOpening}
 use Rattle.gdb_algebra.specs.Plan.{result, returned, Done, Same, Given, JoinsFit, OutputsFit}
 
 -- ---- one call
@@ -57,6 +60,10 @@ same-value s f p q e r v =
     let b : result s p ≡ result s q = sym (r .held .laid-out) ∙ ap (encode f) e ∙ v .held .laid-out in
     let n = returns-length s p (r .done) ∙ ap (λ l. accepted (length l)) b ∙ sym (returns-length s q (v .done)) in
     (r .done, v .done, n, b)
+
+mark-bytes : (b : List ℕ) → Bytes b → Bytes (b ++ mark)
+mark-bytes [] h = (omega arith, (omega arith, (omega arith, (omega arith, tt))))
+mark-bytes (x ∷ b) h = (h .0, mark-bytes b (h .1))
 
 module _ (s : Settings) (f : Format) (ls : List (List ℕ)) where
   -- what a given plan tells before a call is made: the settings are good, and the trace has the lines
@@ -95,10 +102,29 @@ module _ (s : Settings) (f : Format) (ls : List (List ℕ)) where
   bare-given (file b t) g =
       let q = file-of s b f t (g .0) (g .1) in
       let ok = settled (file b t) g in
-      subst (λ l. Bytes (opening l) × (read s (opening l) ≡ accepted (f, traceOf l [])) × (l ≡ ls)) (g .2) (
+      subst (λ l. Bytes (opening l) × (read s (opening l) ≡ accepted (f, traceOf l [] false)) × (l ≡ ls)) (g .2) (
         bytes-front (opening (t .lines)) _ (subst Bytes (sym (q .laid-out)) (g .0)),
         read-file s f (opening (t .lines)) (bare t) ok (record { fits = layout-bare f t (q .fits); laid-out = encode-bare f t }),
         g .2,
       )
   bare-given (cutting c out p) g = bare-given p (g .0)
   bare-given (joining out p q) g = bare-given p (g .0)
+
+  -- and so is the same with a mark, where that is not too long
+  pub marked-given : (p : Plan) → Given s f ls p → length (opening ls) + 4 ≤ limit → Given s f ls (markedOpening ls)
+  unfolding encode
+  marked-given (file b t) g l =
+      let q = file-of s b f t (g .0) (g .1) in
+      let ok = settled (file b t) g in
+      let o = opening (t .lines) in
+      let n : length o + 4 ≤ limit = rw (g .2) l in
+      subst (λ l. Bytes (opening l ++ mark) × (read s (opening l ++ mark) ≡ accepted (f, traceOf l [] true)) × (l ≡ ls)) (g .2) (
+        mark-bytes o (bytes-front o _ (subst Bytes (sym (q .laid-out)) (g .0))),
+        read-file s f (o ++ mark) (traceOf (t .lines) [] true) ok (record {
+          fits = record { lines-fit = q .fits .lines-fit; frames-fit = tt; length-fits = omega (arith, n, length-append o mark) };
+          laid-out = refl;
+        }),
+        g .2,
+      )
+  marked-given (cutting c out p) g l = marked-given p (g .0) l
+  marked-given (joining out p q) g l = marked-given p (g .0) l

@@ -7,11 +7,20 @@ use gdb_format::Settings;
 use gdb_frames::CountAnswer;
 use gdb_frames::LineAnswer;
 use gdb_frames::LocatedAnswer;
+use gdb_frames::MarkAnswer;
 
 fn count(settings: Settings, file: &[u8]) {
     match gdb_frames::frame_count(settings, file) {
         CountAnswer::Frames(n) => show::number(b" ", n),
         CountAnswer::Refused(n) => show::refused(n),
+    }
+}
+
+fn end(settings: Settings, file: &[u8]) {
+    match gdb_frames::end_mark(settings, file) {
+        MarkAnswer::Marked => show::text(b" marked"),
+        MarkAnswer::Unmarked => show::text(b" no mark"),
+        MarkAnswer::Refused(n) => show::refused(n),
     }
 }
 
@@ -79,7 +88,7 @@ fn variable(settings: Settings, file: &[u8], n: usize, number: u64) {
 }
 
 // The question that `t` asks, by its first letter and one or two numbers:
-// count, line J, frame N, tracepoint N, block N K, registers N, memory N ADDRESS, variable N NUMBER.
+// count, end, line J, frame N, tracepoint N, block N K, registers N, memory N ADDRESS, variable N NUMBER.
 pub(crate) fn question(settings: Settings, file: &[u8], t: &[u8]) {
     let first = table::number_after(t, 0);
     let second = table::number_after(t, first.next);
@@ -87,6 +96,7 @@ pub(crate) fn question(settings: Settings, file: &[u8], t: &[u8]) {
     let x = second.value;
     match table::byte(t, 0) {
         b'c' => count(settings, file),
+        b'e' => end(settings, file),
         b'l' => line(settings, file, n),
         b'f' => frame(settings, file, n),
         b't' => tracepoint(settings, file, n),

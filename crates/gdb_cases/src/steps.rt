@@ -24,6 +24,9 @@ fn opened(o: Opened) {
     let stated = o.size;
     size(stated);
     show::number(b" frames ", o.frames);
+    if o.marked {
+        show::text(b" marked");
+    }
 }
 
 pub(crate) fn summary(settings: Settings, file: &[u8]) {

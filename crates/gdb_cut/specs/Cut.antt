@@ -21,7 +21,7 @@ filter p (x ∷ xs) = cond (p x) (x ∷ filter p xs) (filter p xs)
 abbrev pub picks : Selection → Frame → Bool
 picks c r = selects c (r .tracepoint)
 
--- the opening, then every selected frame, bytes and order unchanged
+-- the opening, then every selected frame, bytes and order unchanged; the mark is kept
 abbrev pub cut : Selection → Trace → Trace
 cut c t = withFrames t (filter (picks c) (t .frames))
 

@@ -8,7 +8,7 @@ use mathlib.Core.List.{List, [], _∷_, _++_}
 use lib.ListN.{length, length-append}
 use Rattle.fields.specs.Lists.{concatMap, Each}
 use Rattle.fields.specs.Answer.{accepted}
-use Rattle.gdb_format.specs.Trace.{Frame, Trace, withFrames, opening, putFrame, encode}
+use Rattle.gdb_format.specs.Trace.{Frame, Trace, withFrames, opening, putFrame, putMark, encode}
 use Rattle.gdb_format.specs.Lines.{registerSize}
 use Rattle.gdb_format.specs.Layout.{FrameFits, Layout}
 use Rattle.gdb_format.specs.Settings.{settingsOf}
@@ -93,9 +93,9 @@ picks-other c r = selects-other c (r .tracepoint)
 pub cut-shorter : (f : Format) (c : Selection) (t : Trace) → length (encode f (cut c t)) ≤ length (encode f t)
 cut-shorter f c t = omega (arith, length-encode f t, length-encode f (cut c t), concatMap-parts (putFrame f) (picks c) (t .frames))
 
--- what is kept and what is dropped: the file's length, and one opening more
+-- what is kept and what is dropped: the file's length, and one opening and any mark more
 pub cut-lengths : (f : Format) (c : Selection) (t : Trace)
-    → length (encode f (cut c t)) + length (encode f (cut (opposite c) t)) ≡ length (encode f t) + length (opening (t .lines))
+    → length (encode f (cut c t)) + length (encode f (cut (opposite c) t)) ≡ length (encode f t) + length (opening (t .lines)) + length (putMark (t .marked))
 cut-lengths f c t =
     rw (filter-same (picks (opposite c)) (λ r. not (picks c r)) (picks-other c) (t .frames))
     (omega (

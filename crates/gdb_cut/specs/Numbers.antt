@@ -11,7 +11,7 @@ use Rattle.gdb_select.specs.Selection.{valid}
 use Rattle.gdb_cut.specs.Cut.{cutOf}
 use Rattle.gdb_select.specs.declared.Selection as lent
 
--- 1 to 10, and 11
+-- a file's, and 11
 abbrev pub cutNumbers : List ℕ
 cutNumbers = fileNumbers ++ noRoom ∷ []
 

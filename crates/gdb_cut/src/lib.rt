@@ -1,6 +1,6 @@
 // Cutting GDB traces into an output that the caller lends.
 ghost use mathlib.Core.Path.{_≡_};
-ghost use Prim.Native.Nat.{_≤_};
+ghost use Prim.Native.Nat.{_+_, _≤_};
 ghost use lib.Dec.{leb};
 ghost use lib.ListN.{length, drop};
 ghost use Rattle.fields.specs.Output.{Lent};
@@ -44,15 +44,26 @@ fn cut_length(format: Format, file: &[u8], selection: Selection, start: usize) -
     }
 }
 
-// Whether the cut fits into `room` bytes. It is no longer than the file, so that where the file fits the frames need no walk.
-fn has_room(format: Format, file: &[u8], selection: Selection, start: usize, room: usize) -> bool
+// Whether the cut with a mark of `mark` bytes fits into `room` bytes. It is no longer than the file, so that where the file fits the frames need no walk.
+fn has_room(
+    format: Format,
+    file: &[u8],
+    selection: Selection,
+    start: usize,
+    mark: usize,
+    room: usize,
+) -> bool
     requires { ⌜ (start ≤ length (now file)) × Heads format (drop start (now file)) ⌝ }
-    ensures { λ r. ⌜ r ≡ leb (cutLength format start (now (file .entry)) selection) room ⌝ }
+    ensures { λ r. ⌜ r ≡ leb (cutLength format start (now (file .entry)) selection + mark) room ⌝ }
 {
-    if file.len() <= room {
+    if room < mark {
+        return false;
+    }
+    let left = room - mark;
+    if file.len() <= left {
         return true;
     }
-    cut_length(format, file, selection, start) <= room
+    cut_length(format, file, selection, start) <= left
 }
 
 // Writes the opening and each kept frame; the caller has seen that there is room.
@@ -88,7 +99,7 @@ fn write_cut(
     }
 }
 
-// The opening of `file`, then its frames that the selection selects.
+// The opening of `file`, its frames that the selection selects, and its end mark, if it has one.
 pub fn cut(settings: Settings, file: &[u8], selection: Selection, out: &mut [u8]) -> EditAnswer
     ensures { λ r. ⌜ Lent (cutOf settings selection (now (file .entry))) (now (out .entry)) (editMeaning r) (now (out .exit)) ⌝ }
 {
@@ -100,11 +111,14 @@ pub fn cut(settings: Settings, file: &[u8], selection: Selection, out: &mut [u8]
         Reading::Accepted(o) => {
             let format = o.format;
             let start = o.start;
-            let body = gdb_read::front(file, o.end);
-            if !has_room(format, body, selection, start, out.len()) {
+            let end = o.end;
+            let body = gdb_read::front(file, end);
+            let mark = file.len() - end;
+            if !has_room(format, body, selection, start, mark, out.len()) {
                 return EditAnswer::Refused(NO_ROOM);
             }
-            EditAnswer::Written(write_cut(format, body, selection, start, out))
+            let len = write_cut(format, body, selection, start, out);
+            EditAnswer::Written(len + bytes::copy(&file[end..], &mut out[len..]))
         }
     }
 }

@@ -1,7 +1,7 @@
 -- The answers about GDB traces as C has them: the refusal 0 and the values, or the refusal's number and zeros.
 -- Assumes nothing: these are definitions.
 use mathlib.Core.Path.{_≡_, ap, _∙_}
-use mathlib.Core.Bool.{cond, not}
+use mathlib.Core.Bool.{Bool, cond, not}
 use Prim.Native.Nat.{ℕ}
 use mathlib.Core.List.{List}
 use lib.IntN.{ℤ, pos}
@@ -14,6 +14,7 @@ use Rattle.fields.specs.Output.{answer, exit, Lent}
 use Rattle.gdb_select.specs.declared.Selection as edit
 use Rattle.gdb_pair.specs.Pair.{Side, first, second}
 use Rattle.gdb_flat.specs.declared.questions.Count.{Count}
+use Rattle.gdb_flat.specs.declared.questions.Mark.{Mark}
 use Rattle.gdb_flat.specs.declared.questions.Place.{Place}
 use Rattle.gdb_flat.specs.declared.questions.Line.{Line}
 use Rattle.gdb_flat.specs.declared.questions.Block.{Block}
@@ -25,6 +26,10 @@ use Rattle.gdb_flat.specs.declared.edits.Selection.{Selection}
 unfoldable pub flatCount : Answer ℕ → Count
 flatCount (accepted n) = record { refusal = 0; count = n }
 flatCount (refused k) = record { refusal = k; count = 0 }
+
+unfoldable pub flatMark : Answer Bool → Mark
+flatMark (accepted m) = record { refusal = 0; marked = cond m 1 0 }
+flatMark (refused k) = record { refusal = k; marked = 0 }
 
 unfoldable pub flatPlace : Answer (ℕ × ℕ) → Place
 flatPlace (accepted r) = record { refusal = 0; place = r .0; length = r .1 }

@@ -1,10 +1,10 @@
 // The answers about a GDB trace as C has them.
 ghost use mathlib.Core.Path.{_≡_};
 ghost use Rattle.gdb_data.specs.Blocks.{kindMeaning};
-ghost use Rattle.gdb_frames.specs.Questions.{countMeaning, placeMeaning, lineMeaning};
+ghost use Rattle.gdb_frames.specs.Questions.{countMeaning, markMeaning, placeMeaning, lineMeaning};
 ghost use Rattle.gdb_blocks.specs.Search.{blockMeaning, valueMeaning};
 ghost use Rattle.gdb_table.specs.Records.{tableMeaning};
-ghost use Rattle.gdb_flat.specs.Flat.{flatCount, flatPlace, kindNumber, flatLine, shownBlock, flatBlock, flatValue};
+ghost use Rattle.gdb_flat.specs.Flat.{flatCount, flatMark, flatPlace, kindNumber, flatLine, shownBlock, flatBlock, flatValue};
 use gdb_blocks::BlockAnswer;
 use gdb_blocks::ValueAnswer;
 use gdb_data::BlockKind;
@@ -12,6 +12,7 @@ use gdb_data::BlockRecord;
 use gdb_format::LineKind;
 use gdb_frames::CountAnswer;
 use gdb_frames::LineAnswer;
+use gdb_frames::MarkAnswer;
 use gdb_frames::PlaceAnswer;
 use gdb_table::TableAnswer;
 
@@ -36,6 +37,28 @@ pub fn flat_table(answer: TableAnswer) -> Count
     match answer {
         TableAnswer::Frames(count) => Count { refusal: 0, count },
         TableAnswer::Refused(refusal) => Count { refusal, count: 0 },
+    }
+}
+
+#[repr(C)]
+pub struct Mark {
+    pub refusal: u8,
+    pub marked: u8,
+}
+
+pub fn flat_mark(answer: MarkAnswer) -> Mark
+    ensures { λ r. ⌜ r ≡ flatMark (markMeaning answer) ⌝ }
+{
+    match answer {
+        MarkAnswer::Marked => Mark {
+            refusal: 0,
+            marked: 1,
+        },
+        MarkAnswer::Unmarked => Mark {
+            refusal: 0,
+            marked: 0,
+        },
+        MarkAnswer::Refused(refusal) => Mark { refusal, marked: 0 },
     }
 }
 

@@ -1,18 +1,19 @@
 -- Reading a GDB trace front to back: each rule with its refusal's number beside it, and the first fault met decides.
 -- Assumes nothing: these are definitions.
-use mathlib.Core.Bool.{cond}
+use mathlib.Core.Bool.{Bool, true, false, cond}
 use mathlib.Core.Option.{Option, none, some}
 use Prim.Native.Nat.{ℕ}
 use mathlib.Core.List.{List, [], _∷_, _++_}
 use lib.ListN.{length}
 use lib.Dec.{leb, eqb}
 use Rattle.refusals.specs.Refusal.{limit, tooLong, badHead, noEmptyLine, badLine, shortHead, dataPastFile, badLetter, blockPastData, noRegisterSize}
+use Rattle.refusals.specs.Refusal.{badMark}
 use Rattle.fields.specs.Signed.{signed64}
-use Rattle.fields.specs.Word.{starts}
+use Rattle.fields.specs.Word.{starts, sameBytes}
 use Rattle.fields.specs.Answer.{Answer, accepted, refused, next}
-use Rattle.fields.specs.Reader.{Reader, _>>=_, give, refuse, bytes, num, filling, toEnd}
+use Rattle.fields.specs.Reader.{Reader, _>>=_, give, refuse, bytes, num, filling, toEnd, until}
 use Rattle.fields.specs.declared.Order.the-variants.{Little}
-use Rattle.gdb_format.specs.Trace.{Block, registers, memory, variable, Frame, Trace, traceOf, head}
+use Rattle.gdb_format.specs.Trace.{Block, registers, memory, variable, Frame, Trace, traceOf, head, mark}
 use Rattle.gdb_format.specs.Lines.{mayFollow, registerSize}
 use Rattle.gdb_format.specs.Settings.{settingsOf}
 use Rattle.gdb_format.specs.declared.Settings.{Settings}
@@ -56,13 +57,19 @@ block f size = do
 
 -- ---- frames
 
--- a frame's tracepoint number, and its data not looked into
-unfoldable pub frameHead : Format → Reader (ℕ × List ℕ)
-frameHead f = do
-  n ← num (f .order) 2 shortHead
+-- the size and the data of the frame with number n
+unfoldable pub numbered : Format → ℕ → Reader (ℕ × List ℕ)
+numbered f n = do
   k ← num (f .order) 4 shortHead
   d ← bytes k dataPastFile
   give (n, d)
+
+-- a frame's tracepoint number, and its data not looked into; two bytes of 0 begin no frame, but the end mark
+unfoldable pub frameHead : Format → Reader (ℕ × List ℕ)
+unfolding numbered
+frameHead f = do
+  n ← num (f .order) 2 shortHead
+  cond (eqb n 0) (refuse badMark) (numbered f n)
 
 -- blocks fill the data exactly
 unfoldable pub blocks : Format → Option ℕ → List ℕ → Reader (List Block)
@@ -76,10 +83,15 @@ frame f size = do
   bs ← blocks f size (h .1)
   give (record { tracepoint = h .0; blocks = bs })
 
--- frames follow up to the end of the file
-unfoldable pub frames : Format → Option ℕ → List ℕ → Answer (List Frame)
-unfolding frame toEnd
-frames f size b = toEnd (frame f size) b
+-- what ends the frames: the file's end, or the mark, which is all that is left
+abbrev pub ending : List ℕ → Option Bool
+ending [] = some false
+ending (x ∷ xs) = cond (sameBytes (x ∷ xs) mark) (some true) none
+
+-- frames follow up to the file's end or the mark, and which of both it is
+unfoldable pub frames : Format → Option ℕ → List ℕ → Answer (List Frame × Bool)
+unfolding frame until
+frames f size b = until ending (frame f size) b
 
 -- ---- the description
 
@@ -105,8 +117,8 @@ unfoldable pub trace : Format → List ℕ → Answer Trace
 unfolding openingLines frames
 trace f b =
     next (openingLines f b) (λ r.
-    next (frames f (registerSize f (r .0)) (r .1)) (λ fs.
-    accepted (traceOf (r .0) fs)))
+    next (frames f (registerSize f (r .0)) (r .1)) (λ q.
+    accepted (traceOf (r .0) (q .0) (q .1))))
 
 unfoldable pub decode : Format → List ℕ → Answer Trace
 unfolding trace

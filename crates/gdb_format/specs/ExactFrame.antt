@@ -1,49 +1,83 @@
 -- A frame is read exactly when it is laid out so: its head with its data, and then its blocks.
 -- Assumes nothing.
 use mathlib.Core.Path.{_≡_, refl, sym, ap, _∙_}
-use mathlib.Core.Option.{Option}
+use mathlib.Core.Bool.{Bool, true, false, cond}
+use mathlib.Core.Option.{Option, none, some}
 use Prim.Native.Nat.{ℕ, _^_, _<_}
 use native.Mathlib.Omega.{arith}
-use mathlib.Core.List.{List, [], _++_, append-nil}
+use mathlib.Core.List.{List, [], _∷_, _++_, append-nil}
 use lib.ListN.{length}
-use Rattle.refusals.specs.Refusal.{shortHead, dataPastFile}
-use Rattle.fields.specs.Lists.{concatMap, Each}
-use Rattle.fields.specs.Number.{Bytes, field, bytes-back}
-use Rattle.fields.specs.Answer.{accepted, next-inv, accepted-inj}
-use Rattle.fields.specs.Reader.{Reader, _>>=_, give}
+use lib.Dec.{eqb}
+use borrow.Author.Tests.{eqb-true, eqb-false, le-leb}
+use Rattle.refusals.specs.Refusal.{shortHead, dataPastFile, badMark}
+use Rattle.fields.specs.Lists.{concatMap, Each, clash}
+use Rattle.fields.specs.Number.{Bytes, number, field, bytes-back}
+use Rattle.fields.specs.Word.{sameBytes, same-bytes}
+use Rattle.fields.specs.Answer.{accepted, refused, never, next, next-inv, accepted-inj}
+use Rattle.fields.specs.Reader.{Reader, _>>=_, give, refuse}
 use Rattle.fields.specs.Exact.{Back, Forth, Exact, exact-give, exact-bytes, exact-given, exact-then, exact-as, exact-num}
-use Rattle.fields.specs.Exact.{back-toEnd, forth-toEnd, back-filling, forth-filling}
+use Rattle.fields.specs.Exact.{exact-refuse, exact-cond, back-filling, forth-filling}
 use Rattle.fields.specs.Takes.{Shorter, Takes, shorter, takes-give, takes-bytes, takes-then, takes-num, takes-less, takes-after, takes-filling}
-use Rattle.gdb_format.specs.Trace.{Block, Frame, dataOf, putBlock, putData, putFrame}
+use Rattle.fields.specs.Takes.{takes-refuse, takes-cond}
+use Rattle.fields.specs.Until.{Ends, goes-on, until-end, until-fault, until-more, back-until, forth-until}
+use Rattle.fields.specs.declared.Order.{Order}
+use Rattle.fields.specs.declared.Order.the-variants.{Little, Big}
+use Rattle.gdb_format.specs.Trace.{Block, Frame, dataOf, putBlock, putData, putFrame, mark, putMark}
 use Rattle.gdb_format.specs.Layout.{BlockFits, FrameFits}
-use Rattle.gdb_format.specs.Decode.{block, frameHead, blocks, frame, frames}
+use Rattle.gdb_format.specs.Decode.{block, numbered, frameHead, blocks, frame, ending, frames}
 use Rattle.gdb_format.specs.ExactBlock.{exact-block, shorter-block}
 use Rattle.gdb_format.specs.declared.Format.{Format}
 
 -- ---- the head with its data
 
 abbrev pub HeadFits : ℕ × List ℕ → Type 0
-HeadFits h = (h .0 < 2 ^ 16) × (length (h .1) < 2 ^ 32)
+HeadFits h = (h .0 < 2 ^ 16) × (length (h .1) < 2 ^ 32) × (0 < h .0)
+
+-- behind the number n
+abbrev Numbered : ℕ → ℕ × List ℕ → Type 0
+Numbered n h = (h .0 ≡ n) × (length (h .1) < 2 ^ 32)
+
+abbrev putNumbered : Format → ℕ × List ℕ → List ℕ
+putNumbered f h = field (f .order) 4 (length (h .1)) ++ h .1
+
+exact-numbered : (f : Format) (n : ℕ) → Exact (numbered f n) (Numbered n) (putNumbered f)
+unfolding numbered
+exact-numbered f n =
+    exact-as
+    (exact-then (exact-num (f .order) 4 shortHead) (λ k.
+    exact-then (exact-bytes k dataPastFile) (λ d. exact-give (n, d))
+    (λ h. h .1) (λ d h g e. ap (λ h. h .1) e))
+    (λ h. length (h .1)) (λ k h g e. e .0))
+    (λ h g. ((g .1, (refl, rw (← g .0))), simp append-nil))
+    (λ h g. ((ap (λ h. h .0) (g .1 .1), g .0), simp append-nil))
+
+-- 0 begins no frame
+exact-after : (f : Format) (n : ℕ) → Exact (cond (eqb n 0) (refuse badMark) (numbered f n)) (λ h. Numbered n h × (0 < n)) (putNumbered f)
+exact-after f n =
+    exact-cond (eqb n 0) (λ e. exact-refuse badMark _ _ (λ h g. omega (arith, eqb-true n 0 e, g .1)))
+    (λ e. exact-as (exact-numbered f n) (λ h g. (g .0, refl)) (λ h g. ((g, not-zero (eqb-false n 0 e)), refl)))
+  where
+    not-zero : (n ≡ 0 → ⊥) → 0 < n
+    not-zero z = omega (arith, z)
 
 pub exact-head : (f : Format) → Exact (frameHead f) HeadFits (putData f)
 unfolding frameHead
 exact-head f =
-    exact-as
-    (exact-then (exact-num (f .order) 2 shortHead) (λ n.
-    exact-then (exact-num (f .order) 4 shortHead) (λ k.
-    exact-then (exact-bytes k dataPastFile) (λ d. exact-give (n, d))
-    (λ h. h .1) (λ d h g e. ap (λ h. h .1) e))
-    (λ h. length (h .1)) (λ k h g e. e .0))
-    (λ h. h .0) (λ n h g e. ap (λ h. h .0) (e .1 .1)))
-    (λ h g. ((g .0, (g .1, (refl, refl))), simp append-nil))
-    (λ h g. ((g .0, g .1 .0), simp append-nil))
+    exact-as (exact-then (exact-num (f .order) 2 shortHead) (exact-after f) (λ h. h .0) (λ n h g e. e .0 .0))
+    (λ h g. ((g .0, ((refl, g .1), g .2)), refl))
+    (λ h g. ((g .0, g .1 .0 .1, g .1 .1), refl))
+
+takes-numbered : (f : Format) (n : ℕ) → Takes 0 (numbered f n)
+unfolding numbered
+takes-numbered f n =
+    takes-after 4 (takes-num (f .order) 4 shortHead) (λ k.
+    takes-after k (takes-bytes k dataPastFile) (λ d. takes-give (n, d)))
 
 pub takes-head : (f : Format) → Takes 1 (frameHead f)
 unfolding frameHead
 takes-head f =
     takes-less 2 1 (omega arith) (takes-then 2 (takes-num (f .order) 2 shortHead) (λ n.
-    takes-after 4 (takes-num (f .order) 4 shortHead) (λ k.
-    takes-after k (takes-bytes k dataPastFile) (λ d. takes-give (n, d)))))
+    takes-cond (eqb n 0) (takes-refuse badMark 0) (takes-numbered f n)))
 
 -- ---- the blocks that fill the data
 
@@ -82,8 +116,8 @@ exact-frame f size =
     exact-as
     (exact-given (exact-head f) (body f size) (IsFrame f size) (λ h r. []) (body-back f size) (body-forth f size)
     (λ r. (r .tracepoint, dataOf f r)) (λ h r g e. same h r (e .0) (e .2)))
-    (λ r g. (((g .0, g .1), (refl, g .2, refl)), append-nil (putFrame f r)))
-    (λ r g. ((g .0 .0, g .0 .1, g .1 .1), append-nil (putFrame f r)))
+    (λ r g. (((g .0, g .1, g .3), (refl, g .2, refl)), append-nil (putFrame f r)))
+    (λ r g. ((g .0 .0, g .0 .1, g .1 .1, g .0 .2), append-nil (putFrame f r)))
   where
     same : (h : ℕ × List ℕ) (r : Frame) → r .tracepoint ≡ h .0 → dataOf f r ≡ h .1 → (r .tracepoint, dataOf f r) ≡ h
     same h r i j = rw (i, j)
@@ -98,11 +132,60 @@ shorter-frame f size = shorter 1 (frame f size) (omega arith) (takes-frame f siz
 
 -- ---- the frames of a file
 
-pub frames-back : (f : Format) (size : Option ℕ) (fs : List Frame) → Each (FrameFits f size) fs → frames f size (concatMap (putFrame f) fs) ≡ accepted fs
-unfolding frames
-frames-back f size fs h = back-toEnd (exact-frame f size) (shorter-frame f size) fs h
+zero-pair : (o : Order) → number o (0 ∷ 0 ∷ []) ≡ 0
+zero-pair Little = refl
+zero-pair Big = refl
 
-pub frames-forth : (f : Format) (size : Option ℕ) (b : List ℕ) (fs : List Frame) → Bytes b → frames f size b ≡ accepted fs
-    → Each (FrameFits f size) fs × (concatMap (putFrame f) fs ≡ b)
-unfolding frames
-frames-forth f size b fs h e = forth-toEnd (exact-frame f size) (shorter-frame f size) b fs h e
+-- two bytes of 0 begin no frame
+pub zeros-frame : (f : Format) (size : Option ℕ) (b : List ℕ) → frame f size (0 ∷ 0 ∷ b) ≡ refused badMark
+unfolding frame frameHead
+zeros-frame f size b = rw (le-leb 2 (length (0 ∷ 0 ∷ b)) (omega arith), zero-pair (f .order))
+
+-- where the file ends, or the mark stands, no frame does
+no-frame : (f : Format) (size : Option ℕ) (m : Bool) (r : Frame × List ℕ) → frame f size (putMark m) ≡ accepted r → ⊥
+unfolding frame frameHead
+no-frame f size false r e = never e
+no-frame f size true r e = never (sym (zeros-frame f size (0 ∷ 0 ∷ [])) ∙ e)
+
+frames-end : (f : Format) (size : Option ℕ) → Ends ending (frame f size) putMark
+frames-end f size =
+    record {
+      told = elim [ false ↦ refl | true ↦ refl ];
+      laid = laid;
+      alone = no-frame f size;
+    }
+  where
+    by : (b : List ℕ) (m t : Bool) → sameBytes b mark ≡ t → cond t (some true) none ≡ some m → putMark m ≡ b
+    by b m true i e = let k : m ≡ true = cc in rw k (sym (same-bytes b mark i))
+    by b m false i e = clash (cc)
+
+    laid : (b : List ℕ) (m : Bool) → ending b ≡ some m → putMark m ≡ b
+    laid [] m e = let k : m ≡ false = cc in rw k
+    laid (x ∷ xs) m e = by (x ∷ xs) m (sameBytes (x ∷ xs) mark) refl e
+
+module _ (f : Format) (size : Option ℕ) where
+  pub frames-back : (fs : List Frame) (m : Bool) → Each (FrameFits f size) fs → frames f size (concatMap (putFrame f) fs ++ putMark m) ≡ accepted (fs, m)
+  unfolding frames
+  frames-back fs m h = back-until (shorter-frame f size) (frames-end f size) (exact-frame f size) fs m h
+
+  pub frames-forth : (b : List ℕ) (fs : List Frame) (m : Bool) → Bytes b → frames f size b ≡ accepted (fs, m)
+      → Each (FrameFits f size) fs × (concatMap (putFrame f) fs ++ putMark m ≡ b)
+  unfolding frames
+  frames-forth b fs m h e = forth-until (shorter-frame f size) (frames-end f size) (exact-frame f size) b fs m h e
+
+  -- the frames from one of them on, from a fault, and from their end
+  pub frames-more : (b : List ℕ) (r : Frame) (rest : List ℕ) → frame f size b ≡ accepted (r, rest)
+      → frames f size b ≡ next (frames f size rest) (λ q. accepted (r ∷ q .0, q .1))
+  unfolding frames
+  frames-more b r rest e =
+      until-more ending (frame f size) (shorter-frame f size) b r rest
+      (goes-on (shorter-frame f size) (frames-end f size) (exact-frame f size) b (r, rest) e) e
+
+  pub frames-fault : (b : List ℕ) (n : ℕ) → 0 < length b → sameBytes b mark ≡ false → frame f size b ≡ refused n → frames f size b ≡ refused n
+  unfolding frames
+  frames-fault [] n h i e = absurd (omega arith)
+  frames-fault (x ∷ xs) n h i e = until-fault ending (frame f size) (shorter-frame f size) (x ∷ xs) n (rw i) e
+
+  pub frames-ended : (m : Bool) → frames f size (putMark m) ≡ accepted ([], m)
+  unfolding frames
+  frames-ended m = until-end ending (frame f size) (shorter-frame f size) (putMark m) m (frames-end f size .told m)

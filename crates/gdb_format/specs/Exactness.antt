@@ -1,6 +1,7 @@
 -- A file is accepted exactly when it follows the layout.
 -- Assumes nothing.
 use mathlib.Core.Path.{_≡_, ap, _∙_, subst}
+use mathlib.Core.Bool.{Bool}
 use mathlib.Core.Logic.{_↔_}
 use Prim.Native.Nat.{ℕ, _≤_}
 use mathlib.Core.List.{List, _++_}
@@ -12,7 +13,7 @@ use Rattle.fields.specs.Lists.{concatMap, Each}
 use Rattle.fields.specs.Number.{Bytes, bytes-back}
 use Rattle.fields.specs.Answer.{Answer, accepted, next, accepted-inj, next-inv, cond-inv}
 use Rattle.gdb_format.specs.Settings.{settingsOf}
-use Rattle.gdb_format.specs.Trace.{Frame, Trace, traceOf, putFrame, opening, encode}
+use Rattle.gdb_format.specs.Trace.{Frame, Trace, traceOf, putFrame, putMark, opening, encode}
 use Rattle.gdb_format.specs.Lines.{registerSize}
 use Rattle.gdb_format.specs.Layout.{LinesFit, FrameFits, Layout}
 use Rattle.gdb_format.specs.Decode.{openingLines, frames, trace, decode, read}
@@ -25,18 +26,18 @@ trace-back : (f : Format) (t : Trace) → Layout f t → trace f (encode f t) �
 unfolding encode trace
 trace-back f t h =
     rw (
-      (exact-opening f) .back (t .lines) (concatMap (putFrame f) (t .frames)) (h .lines-fit),
-      frames-back f (registerSize f (t .lines)) (t .frames) (h .frames-fit),
+      (exact-opening f) .back (t .lines) (concatMap (putFrame f) (t .frames) ++ putMark (t .marked)) (h .lines-fit),
+      frames-back f (registerSize f (t .lines)) (t .frames) (t .marked) (h .frames-fit),
     )
 
-made-forth : (f : Format) (b rest : List ℕ) (ls : List (List ℕ)) (fs : List Frame) (t : Trace) → length b ≤ limit
-    → LinesFit f ls × (opening ls ++ rest ≡ b) → Each (FrameFits f (registerSize f ls)) fs × (concatMap (putFrame f) fs ≡ rest)
-    → _≡_ {A = Answer Trace} (accepted (traceOf ls fs)) (accepted t) → Layout f t × (encode f t ≡ b)
+made-forth : (f : Format) (b rest : List ℕ) (ls : List (List ℕ)) (fs : List Frame) (m : Bool) (t : Trace) → length b ≤ limit
+    → LinesFit f ls × (opening ls ++ rest ≡ b) → Each (FrameFits f (registerSize f ls)) fs × (concatMap (putFrame f) fs ++ putMark m ≡ rest)
+    → _≡_ {A = Answer Trace} (accepted (traceOf ls fs m)) (accepted t) → Layout f t × (encode f t ≡ b)
 unfolding encode
-made-forth f b rest ls fs t k l g e =
-    let m : t ≡ traceOf ls fs = cc in
-    let w : opening ls ++ concatMap (putFrame f) fs ≡ b = rw (g .1) (l .1) in
-    rw m (record { lines-fit = l .0; frames-fit = g .0; length-fits = rw w k }, w)
+made-forth f b rest ls fs m t k l g e =
+    let i : t ≡ traceOf ls fs m = cc in
+    let w : opening ls ++ (concatMap (putFrame f) fs ++ putMark m) ≡ b = rw (g .1) (l .1) in
+    rw i (record { lines-fit = l .0; frames-fit = g .0; length-fits = rw w k }, w)
 
 trace-forth : (f : Format) (b : List ℕ) (t : Trace) → Bytes b → length b ≤ limit → trace f b ≡ accepted t → Layout f t × (encode f t ≡ b)
 unfolding trace
@@ -46,7 +47,8 @@ trace-forth f b t h k e =
     let rest = s .0 .1 in
     let u = next-inv (frames f (registerSize f ls) rest) _ (s .2) in
     let l = (exact-opening f) .forth b ls rest h (s .1) in
-    made-forth f b rest ls (u .0) t k l (frames-forth f (registerSize f ls) rest (u .0) (bytes-back (opening ls) rest (rw (l .1) h)) (u .1)) (u .2)
+    made-forth f b rest ls (u .0 .0) (u .0 .1) t k l
+    (frames-forth f (registerSize f ls) rest (u .0 .0) (u .0 .1) (bytes-back (opening ls) rest (rw (l .1) h)) (u .1)) (u .2)
 
 -- what is laid out is read back
 pub decode-encode : (f : Format) (t : Trace) → Layout f t → decode f (encode f t) ≡ accepted t

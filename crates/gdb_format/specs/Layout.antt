@@ -53,8 +53,9 @@ BlockFits size (registers b) = size ≡ some (length b)
 BlockFits size (memory a b) = (a < 2 ^ 64) × (length b < 2 ^ 16)
 BlockFits size (variable n v) = (n < 2 ^ 32) × Signed64 v
 
+-- no frame has the number 0, which begins the end mark
 abbrev pub FrameFits : Format → Option ℕ → Frame → Type 0
-FrameFits f size r = (r .tracepoint < 2 ^ 16) × (length (dataOf f r) < 2 ^ 32) × Each (BlockFits size) (r .blocks)
+FrameFits f size r = (r .tracepoint < 2 ^ 16) × (length (dataOf f r) < 2 ^ 32) × Each (BlockFits size) (r .blocks) × (0 < r .tracepoint)
 
 pub record Layout (f : Format) (t : Trace) : Type 0 where
   pub lines-fit : LinesFit f (t .lines)

@@ -12,3 +12,4 @@ pub mod ExactFrame
 pub mod ExactLines
 pub mod Exactness
 pub mod Numbers
+pub mod Mark

@@ -8,18 +8,19 @@ use mathlib.Core.List.{List, [], _∷_, _++_}
 use lib.ListN.{length}
 use lib.Dec.{leb, eqb}
 use Rattle.refusals.specs.Refusal.{limit, tooLong, badArgument, badHead, noEmptyLine, badLine, shortHead, dataPastFile}
-use Rattle.refusals.specs.Refusal.{badLetter, blockPastData, noRegisterSize}
+use Rattle.refusals.specs.Refusal.{badLetter, blockPastData, noRegisterSize, badMark}
 use Rattle.fields.specs.Word.{starts}
 use Rattle.fields.specs.Answer.{Answer, accepted, refused, next, never, refused-inv}
 use Rattle.fields.specs.Refuses.{Refuses, Refusing, OneOf, refuses-never, refuses-with, refuses-cond, refuses-next, refuses-in, refuses-too-long}
-use Rattle.fields.specs.Refuses.{refuses-to-end, refusing-give, refusing-refuse, refusing-bytes, refusing-cond, refusing-then, refusing-num}
+use Rattle.fields.specs.Refuses.{refuses-until, refusing-give, refusing-refuse, refusing-bytes, refusing-cond, refusing-then, refusing-num}
 use Rattle.fields.specs.Refuses.{refusing-filling, refusing-in}
 use Rattle.fields.specs.declared.Order.the-variants.{Little}
 use Rattle.gdb_format.specs.Trace.{Trace, head}
 use Rattle.gdb_format.specs.Lines.{mayFollow, registerSize}
 use Rattle.gdb_format.specs.Settings.{orderOf, settingsOf}
-use Rattle.gdb_format.specs.Decode.{registerBlock, memoryBlock, variableBlock, blockOf, block, frameHead, blocks, frame, frames}
+use Rattle.gdb_format.specs.Decode.{registerBlock, memoryBlock, variableBlock, blockOf, block, numbered, frameHead, blocks, frame, ending, frames}
 use Rattle.gdb_format.specs.Decode.{description, openingLines, trace, decode, read}
+use Rattle.gdb_format.specs.ExactFrame.{shorter-frame}
 use Rattle.gdb_format.specs.declared.Settings.{Settings}
 use Rattle.gdb_format.specs.declared.Format.{Format}
 
@@ -55,27 +56,39 @@ module _ (f : Format) where
       (refusing-cond (eqb letter 0x4D) memory-numbers
       (refusing-cond (eqb letter 0x56) variable-numbers (refusing-refuse tt))))
 
--- ---- frames: 6 and 7, and their blocks'
+-- ---- frames: 6, 7 and 18, and their blocks'
+
+abbrev pub numberedNumbers : List ℕ
+numberedNumbers = shortHead ∷ dataPastFile ∷ []
 
 abbrev pub headNumbers : List ℕ
-headNumbers = shortHead ∷ dataPastFile ∷ []
+headNumbers = numberedNumbers ++ badMark ∷ []
 
 abbrev pub frameNumbers : List ℕ
 frameNumbers = headNumbers ++ blockNumbers
 
 module _ (f : Format) where
+  pub numbered-numbers : (n : ℕ) → Refusing (OneOf numberedNumbers) (numbered f n)
+  unfolding numbered
+  numbered-numbers n =
+      refusing-then (refusing-num (f .order) 4 shortHead tt) (λ k.
+      refusing-then (refusing-bytes k dataPastFile tt) (λ d. refusing-give))
+
   pub head-numbers : Refusing (OneOf headNumbers) (frameHead f)
   unfolding frameHead
   head-numbers =
       refusing-then (refusing-num (f .order) 2 shortHead tt) (λ n.
-      refusing-then (refusing-num (f .order) 4 shortHead tt) (λ k.
-      refusing-then (refusing-bytes k dataPastFile tt) (λ d. refusing-give)))
+      refusing-cond (eqb n 0) (refusing-refuse tt) (refusing-in numberedNumbers _ (numbered-numbers n)))
+
+  pub blocks-numbers : (size : Option ℕ) (d : List ℕ) → Refusing (OneOf blockNumbers) (blocks f size d)
+  unfolding blocks
+  blocks-numbers size d = refusing-filling d (block-numbers f size)
 
   pub frame-numbers : (size : Option ℕ) → Refusing (OneOf frameNumbers) (frame f size)
-  unfolding frame blocks
+  unfolding frame
   frame-numbers size =
       refusing-then (refusing-in headNumbers _ head-numbers) (λ h.
-      refusing-then (refusing-filling (h .1) (refusing-in blockNumbers _ (block-numbers f size))) (λ bs. refusing-give))
+      refusing-then (refusing-in blockNumbers _ (blocks-numbers size (h .1))) (λ bs. refusing-give))
 
 -- ---- the opening: 3, 4, 5
 
@@ -116,7 +129,9 @@ module _ (f : Format) (b : List ℕ) where
   unfolding trace frames
   trace-numbers =
       refuses-next (refuses-in openingNumbers _ (opening-numbers f .reading b)) (λ r.
-      refuses-next (refuses-to-end (refusing-in frameNumbers _ (frame-numbers f (registerSize f (r .0)))) (r .1)) (λ fs. refuses-never))
+      refuses-next
+      (refuses-until ending (shorter-frame f (registerSize f (r .0))) (refusing-in frameNumbers _ (frame-numbers f (registerSize f (r .0)))) (r .1))
+      (λ q. refuses-never))
 
   pub decode-numbers : Refuses (OneOf decodeNumbers) (decode f b)
   unfolding decode

@@ -1,5 +1,6 @@
 -- What a GDB trace is, and how it is laid out in bytes. A trace holds no places: where a thing stands follows from the layout.
 -- Assumes nothing: these are definitions.
+use mathlib.Core.Bool.{Bool, true, false}
 use Prim.Native.Nat.{ℕ}
 use mathlib.Core.List.{List, [], _∷_, _++_}
 use lib.ListN.{length}
@@ -18,17 +19,22 @@ pub record Frame : Type 0 where
   pub tracepoint : ℕ
   pub blocks : List Block
 
--- the description's lines, each without its 0A and the closing empty one not among them, and the frames
+-- the description's lines, each without its 0A and the closing empty one not among them; the frames; and whether the end mark stands behind them
 pub record Trace : Type 0 where
   pub lines : List (List ℕ)
   pub frames : List Frame
+  pub marked : Bool
 
-abbrev pub traceOf : List (List ℕ) → List Frame → Trace
-traceOf ls fs = record { lines = ls; frames = fs }
+abbrev pub traceOf : List (List ℕ) → List Frame → Bool → Trace
+traceOf ls fs m = record { lines = ls; frames = fs; marked = m }
 
--- the same description with other frames
+-- the same description and mark with other frames
 abbrev pub withFrames : Trace → List Frame → Trace
-withFrames t fs = traceOf (t .lines) fs
+withFrames t fs = traceOf (t .lines) fs (t .marked)
+
+-- the same description and frames without a mark
+abbrev pub unmarked : Trace → Trace
+unmarked t = traceOf (t .lines) (t .frames) false
 
 -- ---- the layout in bytes
 
@@ -63,5 +69,13 @@ headIn f r = (r .tracepoint, dataOf f r)
 abbrev pub putFrame : Format → Frame → List ℕ
 putFrame f r = putData f (headIn f r)
 
+-- the end mark: four bytes of 0, the file's last
+abbrev pub mark : List ℕ
+mark = 0 ∷ 0 ∷ 0 ∷ 0 ∷ []
+
+abbrev pub putMark : Bool → List ℕ
+putMark true = mark
+putMark false = []
+
 unfoldable pub encode : Format → Trace → List ℕ
-encode f t = opening (t .lines) ++ concatMap (putFrame f) (t .frames)
+encode f t = opening (t .lines) ++ (concatMap (putFrame f) (t .frames) ++ putMark (t .marked))

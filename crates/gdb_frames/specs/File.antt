@@ -1,17 +1,17 @@
 -- A file that was accepted, and its trace: where the opening's lines and the frames stand, and what the whole reading's answer tells.
 -- Assumes nothing.
 use mathlib.Core.Path.{_≡_, refl, sym, ap, _∙_, subst}
-use Prim.Native.Nat.{ℕ, _-_, _≤_}
+use Prim.Native.Nat.{ℕ, _+_, _-_, _≤_}
 use native.Mathlib.Omega.{arith}
-use mathlib.Core.List.{List, [], _∷_, _++_, append-assoc}
+use mathlib.Core.List.{List, [], _∷_, _++_, append-assoc, append-nil}
 use lib.ListN.{length, take, drop, getD, length-append}
 use mir.Syntax.{w8}
 use mir.Val.{Fits}
-use lib.Seq.{take-at, take-all, drop-at}
+use lib.Seq.{take-at, drop-at}
 use Rattle.fields.specs.Lists.{concatMap}
 use Rattle.fields.specs.Number.{Bytes}
 use Rattle.fields.specs.Answer.{Answer, accepted, refused, next-inv, refused-inv, accepted-one, accepted-inj}
-use Rattle.gdb_format.specs.Trace.{Trace, opening, putLine, putFrame, encode}
+use Rattle.gdb_format.specs.Trace.{Trace, unmarked, opening, putLine, putFrame, putMark, encode}
 use Rattle.gdb_format.specs.Layout.{LinesFit, Layout}
 use Rattle.gdb_format.specs.Settings.{settingsOf}
 use Rattle.gdb_format.specs.Decode.{openingLines, decode, read}
@@ -24,7 +24,7 @@ use Rattle.gdb_read.specs.Steps.{framesEnd, length-encode, Summary, summaryOf, 
 use Rattle.gdb_read.specs.declared.Opened.{Opened}
 use Rattle.gdb_read.specs.declared.Reading.{Reading}
 use Rattle.gdb_read.specs.declared.Reading.the-variants as reading
-use Rattle.gdb_frames.specs.Questions.{asked, frameCount}
+use Rattle.gdb_frames.specs.Questions.{asked, frameCount, endMark}
 
 -- ---- a file and its trace
 
@@ -32,40 +32,76 @@ pub record File (f : Format) (b : List ℕ) (t : Trace) : Type 0 where
   pub fits : Layout f t
   pub laid-out : encode f t ≡ b
 
--- the frames stand behind the opening
-pub frames-behind : (f : Format) (b : List ℕ) (t : Trace) → File f b t → drop (length (opening (t .lines))) b ≡ concatMap (putFrame f) (t .frames)
-unfolding encode
-frames-behind f b t i =
-    ap (drop (length (opening (t .lines)))) (sym (i .laid-out))
-    ∙ drop-at (opening (t .lines)) (concatMap (putFrame f) (t .frames)) (length (opening (t .lines))) refl
+module _ (f : Format) (b : List ℕ) (t : Trace) (i : File f b t) where
+  -- behind the opening stand the frames and the mark, if any
+  pub frames-behind : drop (length (opening (t .lines))) b ≡ concatMap (putFrame f) (t .frames) ++ putMark (t .marked)
+  unfolding encode
+  frames-behind =
+      ap (drop (length (opening (t .lines)))) (sym (i .laid-out))
+      ∙ drop-at (opening (t .lines)) (concatMap (putFrame f) (t .frames) ++ putMark (t .marked)) (length (opening (t .lines))) refl
 
--- from where they start to where they end
-pub frames-part : (f : Format) (b : List ℕ) (t : Trace) → File f b t
-    → take (framesEnd f t - length (opening (t .lines))) (drop (length (opening (t .lines))) b) ≡ concatMap (putFrame f) (t .frames)
-frames-part f b t i =
-    let n = framesEnd f t - length (opening (t .lines)) in
-    ap (take n) (frames-behind f b t i) ∙ take-all n (concatMap (putFrame f) (t .frames)) (omega arith)
+  -- the frames, from where they start to where they end
+  pub frames-part : take (framesEnd f t - length (opening (t .lines))) (drop (length (opening (t .lines))) b) ≡ concatMap (putFrame f) (t .frames)
+  frames-part =
+      let n = framesEnd f t - length (opening (t .lines)) in
+      ap (take n) frames-behind ∙ take-at (concatMap (putFrame f) (t .frames)) (putMark (t .marked)) n (omega arith)
 
-pub start-within : (f : Format) (b : List ℕ) (t : Trace) → File f b t → length (opening (t .lines)) ≤ length b
-unfolding encode
-start-within f b t i = omega (arith, ap length (i .laid-out), length-append (opening (t .lines)) (concatMap (putFrame f) (t .frames)))
+  -- opening and frames, and the mark behind them
+  in-two : (opening (t .lines) ++ concatMap (putFrame f) (t .frames)) ++ putMark (t .marked) ≡ b
+  unfolding encode
+  in-two = append-assoc (opening (t .lines)) (concatMap (putFrame f) (t .frames)) (putMark (t .marked)) ∙ i .laid-out
+
+  front-long : length (opening (t .lines) ++ concatMap (putFrame f) (t .frames)) ≡ framesEnd f t
+  front-long = length-append (opening (t .lines)) (concatMap (putFrame f) (t .frames))
+
+  pub mark-behind : drop (framesEnd f t) b ≡ putMark (t .marked)
+  mark-behind =
+      ap (drop (framesEnd f t)) (sym in-two)
+      ∙ drop-at (opening (t .lines) ++ concatMap (putFrame f) (t .frames)) (putMark (t .marked)) (framesEnd f t) front-long
+
+  pub frames-front : take (framesEnd f t) b ≡ opening (t .lines) ++ concatMap (putFrame f) (t .frames)
+  frames-front =
+      ap (take (framesEnd f t)) (sym in-two)
+      ∙ take-at (opening (t .lines) ++ concatMap (putFrame f) (t .frames)) (putMark (t .marked)) (framesEnd f t) front-long
+
+  pub frames-last : framesEnd f t + length (putMark (t .marked)) ≡ length b
+  frames-last = sym (length-encode f t) ∙ ap length (i .laid-out)
+
+  pub start-within : length (opening (t .lines)) ≤ length b
+  start-within = omega (arith, frames-last)
+
+  -- a file starts with its opening
+  pub opening-front : take (length (opening (t .lines))) b ≡ opening (t .lines)
+  unfolding encode
+  opening-front =
+      let o = opening (t .lines) in
+      ap (take (length o)) (sym (i .laid-out)) ∙ take-at o (concatMap (putFrame f) (t .frames) ++ putMark (t .marked)) (length o) refl
+
+  pub lines-behind : drop 8 b ≡ concatMap putLine (t .lines) ++ 0x0A ∷ (concatMap (putFrame f) (t .frames) ++ putMark (t .marked))
+  unfolding opening encode
+  lines-behind =
+      ap (drop 8) (sym (i .laid-out))
+      ∙ append-assoc (concatMap putLine (t .lines)) (0x0A ∷ []) (concatMap (putFrame f) (t .frames) ++ putMark (t .marked))
+
+  -- up to where the frames end it is a file of these frames without a mark
+  pub front-file : File f (take (framesEnd f t) b) (unmarked t)
+  unfolding encode
+  front-file = record {
+    fits = record {
+      lines-fit = i .fits .lines-fit;
+      frames-fit = i .fits .frames-fit;
+      length-fits = omega (arith, i .fits .length-fits, length-encode f t, length-encode f (unmarked t));
+    };
+    laid-out = ap (λ x. opening (t .lines) ++ x) (append-nil (concatMap (putFrame f) (t .frames))) ∙ sym frames-front;
+  }
+
+-- nothing stands behind the frames of a file without a mark
+pub frames-alone : (f : Format) (b : List ℕ) (t : Trace) → File f b (unmarked t)
+    → drop (length (opening (t .lines))) b ≡ concatMap (putFrame f) (t .frames)
+frames-alone f b t i = frames-behind f b (unmarked t) i ∙ append-nil (concatMap (putFrame f) (t .frames))
 
 pub file-of : (s : Settings) (b : List ℕ) (f : Format) (t : Trace) → Bytes b → read s b ≡ accepted (f, t) → File f b t
 file-of s b f t h e = let l = (read-exactness s b f t h) .0 e in record { fits = l .1; laid-out = l .2 }
-
--- a file starts with its opening
-pub opening-front : (f : Format) (b : List ℕ) (t : Trace) → File f b t → take (length (opening (t .lines))) b ≡ opening (t .lines)
-unfolding encode
-opening-front f b t i =
-    let o = opening (t .lines) in
-    ap (take (length o)) (sym (i .laid-out)) ∙ take-at o (concatMap (putFrame f) (t .frames)) (length o) refl
-
--- and ends with its frames
-pub frames-last : (f : Format) (b : List ℕ) (t : Trace) → File f b t → framesEnd f t ≡ length b
-frames-last f b t i = sym (length-encode f t) ∙ ap length (i .laid-out)
-
-pub frames-front : (f : Format) (b : List ℕ) (t : Trace) → File f b t → take (framesEnd f t) b ≡ b
-frames-front f b t i = take-all (framesEnd f t) b (omega (arith, frames-last f b t i))
 
 -- a file is read as the trace that it holds
 pub decode-file : (f : Format) (b : List ℕ) (t : Trace) → File f b t → decode f b ≡ accepted t
@@ -80,19 +116,10 @@ pub same-lines : (f : Format) (ls ms : List (List ℕ)) → LinesFit f ls → Li
 same-lines f ls ms h k e =
     (accepted-inj (sym ((exact-opening f) .back ls [] h) ∙ ap (λ b. openingLines f (b ++ [])) e ∙ (exact-opening f) .back ms [] k)) .0
 
--- up to where the frames end it is a file of these frames
-pub front-file : (f : Format) (b : List ℕ) (t : Trace) → File f b t → File f (take (framesEnd f t) b) t
-front-file f b t i = subst (λ d. File f d t) (sym (frames-front f b t i)) i
-
 -- what the whole reading's answer tells
 pub summary-inv : (m : Summary) (x : Answer (Format × Trace)) → accepted m ≡ readSeen x
     → (r : Format × Trace) × (x ≡ accepted r) × (summaryOf (r .0) (r .1) ≡ m)
 summary-inv m x e = let q = next-inv x (λ r. accepted (summaryOf (r .0) (r .1))) (sym e) in (q .0, q .1, accepted-one (q .2))
-
-pub lines-behind : (f : Format) (b : List ℕ) (t : Trace) → File f b t → drop 8 b ≡ concatMap putLine (t .lines) ++ 0x0A ∷ concatMap (putFrame f) (t .frames)
-unfolding opening encode
-lines-behind f b t i =
-    ap (drop 8) (sym (i .laid-out)) ∙ append-assoc (concatMap putLine (t .lines)) (0x0A ∷ []) (concatMap (putFrame f) (t .frames))
 
 -- ---- what the reading's answer is for every question
 
@@ -119,9 +146,12 @@ module _ (s : Settings) (b : List ℕ) (h : Bytes b) (m : Summary) (e : accepted
   pub count-told : accepted (m .frames) ≡ asked s b frameCount
   count-told = told (λ m. accepted (m .frames) ≡ asked s b frameCount) (λ f t r i. rw r)
 
+  pub mark-told : accepted (m .marked) ≡ asked s b endMark
+  mark-told = told (λ m. accepted (m .marked) ≡ asked s b endMark) (λ f t r i. rw r)
+
 -- a fact of the file up to where its frames end, told of the bytes that a walk is given
 pub told-front : {s : Settings} {b d : List ℕ} {m : Summary} → WasRead s b m → d ≡ take (m .end) b → (P : List ℕ → Summary → Type 0)
-    → ((f : Format) (t : Trace) (d : List ℕ) → read s b ≡ accepted (f, t) → File f d t → P d (summaryOf f t)) → P d m
+    → ((f : Format) (t : Trace) (d : List ℕ) → read s b ≡ accepted (f, t) → File f d (unmarked t) → P d (summaryOf f t)) → P d m
 told-front {s} {b} {d} {m} w e P g =
     subst (λ d. P d m) (sym e)
     (told s b (w .bytes) m (w .summed) (λ m. P (take (m .end) b) m) (λ f t r i. g f t (take (framesEnd f t) b) r (front-file f b t i)))

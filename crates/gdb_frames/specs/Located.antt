@@ -2,15 +2,15 @@
 -- Assumes nothing.
 use mathlib.Core.Path.{_≡_, refl, sym, ap, _∙_}
 use mathlib.Core.Option.{Option}
-use Prim.Native.Nat.{ℕ, _+_, _<_}
+use Prim.Native.Nat.{ℕ, _+_, _<_, _≤_}
 use native.Mathlib.Omega.{arith}
-use mathlib.Core.List.{List, [], _∷_}
+use mathlib.Core.List.{List, [], _∷_, _++_}
 use lib.ListN.{length, take}
 use borrow.Author.Tests.{le-leb}
 use Rattle.fields.specs.Lists.{concatMap, Each}
 use Rattle.fields.specs.Answer.{Answer, accepted, refused, next, next-inv, refused-inv, accepted-inj, next-assoc}
 use Rattle.fields.specs.Element.{nth}
-use Rattle.gdb_format.specs.Trace.{Frame, Trace, opening, headIn, putFrame}
+use Rattle.gdb_format.specs.Trace.{Frame, Trace, unmarked, opening, headIn, putFrame, putMark}
 use Rattle.gdb_format.specs.Lines.{registerSize, kindOf}
 use Rattle.gdb_format.specs.Layout.{LineFits, FrameFits}
 use Rattle.gdb_format.specs.Decode.{frameHead, read}
@@ -25,7 +25,7 @@ use Rattle.gdb_frames.specs.Questions.{asked, frameRow, dataIn, frameDat
 use Rattle.gdb_frames.specs.Nth.{nthHead, shownNth, nth-placed, foundBy, nth-found, nthLine, IsLine, nth-line}
 use Rattle.gdb_frames.specs.declared.LocatedAnswer.{LocatedAnswer}
 use Rattle.gdb_frames.specs.declared.LocatedAnswer.the-variants as located
-use Rattle.gdb_frames.specs.File.{File, WasRead, frames-behind, frames-front, start-within, lines-behind, told}
+use Rattle.gdb_frames.specs.File.{File, WasRead, frames-behind, front-file, start-within, lines-behind, told}
 use Rattle.gdb_frames.specs.PlaceLaws.{line-within, line-is}
 
 -- frame n with what is needed to read its blocks: the format, the register size, and what the frame shows
@@ -45,17 +45,23 @@ locatedMeaning (located.Refused n) = refused n
 frame-fill : (f : Format) (r : Frame) → 0 < length (putFrame f r)
 frame-fill f r = omega (arith, frame-long f (headIn f r))
 
-pub head-nth : (f : Format) (b : List ℕ) (t : Trace) (n : ℕ) → File f b t
+-- a walk past the frames must not meet the mark
+head-at : (f : Format) (b : List ℕ) (t : Trace) (n : ℕ) → File f b t → (length (t .frames) ≤ n → putMark (t .marked) ≡ [])
     → nthHead f b n (length (opening (t .lines))) ≡ shownNth (frameSeen f) (putFrame f) (nth (framesAt f t) n)
-head-nth f b t n i =
+head-at f b t n i z =
     nth-placed headSeen (frameHead f) (headIn f) (FrameFits f (registerSize f (t .lines))) (putFrame f)
-    (λ r rest g. (exact-head f) .back (headIn f r) rest (g .0, g .1)) (frame-fill f) b
-    n (t .frames) (length (opening (t .lines))) (i .fits .frames-fit) (start-within f b t i) (frames-behind f b t i)
+    (λ r rest g. (exact-head f) .back (headIn f r) rest (g .0, g .1, g .3)) (frame-fill f) b
+    (putMark (t .marked)) n (t .frames) (length (opening (t .lines))) z (i .fits .frames-fit) (start-within f b t i) (frames-behind f b t i)
 
--- the walk goes to where the frames end
+-- it stays within their number
+pub head-nth : (f : Format) (b : List ℕ) (t : Trace) (n : ℕ) → File f b t → n < length (t .frames)
+    → nthHead f b n (length (opening (t .lines))) ≡ shownNth (frameSeen f) (putFrame f) (nth (framesAt f t) n)
+head-nth f b t n i l = head-at f b t n i (λ k. absurd (omega (arith, l, k)))
+
+-- or goes to where they end
 pub head-front : (f : Format) (b : List ℕ) (t : Trace) (n : ℕ) → File f b t
     → nthHead f (take (framesEnd f t) b) n (length (opening (t .lines))) ≡ shownNth (frameSeen f) (putFrame f) (nth (framesAt f t) n)
-head-front f b t n i = ap (λ s. nthHead f s n (length (opening (t .lines)))) (frames-front f b t i) ∙ head-nth f b t n i
+head-front f b t n i = head-at f (take (framesEnd f t) b) (unmarked t) n (front-file f b t i) (λ k. refl)
 
 -- the head that the walk met, with what is needed to read its blocks
 pub located-is : {s : Settings} {b : List ℕ} {m : Summary} → WasRead s b m → (n : ℕ) {x : Answer (Option (Row × ℕ))}
@@ -89,7 +95,9 @@ lines-each f (l ∷ ls) h = ((h .0 .0, h .0 .1), lines-each f ls (h .1))
 
 pub line-nth : (f : Format) (b : List ℕ) (t : Trace) (j : ℕ) → File f b t
     → nthLine b j 8 ≡ next (nth (linesAt t) j) (λ r. accepted (r .0, length (r .1)))
-line-nth f b t j i = nth-line b (concatMap (putFrame f) (t .frames)) j (t .lines) 8 (lines-each f (t .lines) (i .fits .lines-fit .0)) (lines-behind f b t i)
+line-nth f b t j i =
+    nth-line b (concatMap (putFrame f) (t .frames) ++ putMark (t .marked)) j (t .lines) 8 (lines-each f (t .lines) (i .fits .lines-fit .0))
+    (lines-behind f b t i)
 
 module _ {s : Settings} {b : List ℕ} {m : Summary} (w : WasRead s b m) (j : ℕ) where
   pub line-missing : (k : ℕ) → refused k ≡ nthLine b j 8 → refused k ≡ asked s b (lineAt j)

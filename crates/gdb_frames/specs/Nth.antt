@@ -72,7 +72,7 @@ nth-found {A} view put g xs n = by (nth xs n) refl
     by (accepted r) e = refl
     by (refused k) e = ap refused (sym (nth-refused xs n k e))
 
--- xs stand in s from a place on, each as `put` lays it out, and p reads x as h x
+-- xs stand in s from a place on, each as `put` lays it out, and p reads x as h x; `rest` stands behind them
 module _ {A B C : Type 0} (view : ℕ → B → C) (p : Reader B) (h : A → B) (F : A → Type 0) (put : A → List ℕ)
     (reads : (x : A) (rest : List ℕ) → F x → p (put x ++ rest) ≡ accepted (h x, rest)) (fill : (x : A) → 0 < length (put x)) (s : List ℕ) where
   step-end : (at : ℕ) → drop at s ≡ [] → stepAt view p s at ≡ accepted none
@@ -91,14 +91,18 @@ module _ {A B C : Type 0} (view : ℕ → B → C) (p : Reader B) (h : A → B) 
       step-read view p s at (h x) (at + length (put x)) (omega (arith, fill x)) k
       (rw e (reads x b g) ∙ ap (λ r. accepted (h x, r)) (sym (rest-at at (put x) b e)))
 
-  pub nth-placed : (n : ℕ) (xs : List A) (at : ℕ) → Each F xs → at ≤ length s → drop at s ≡ concatMap put xs
+  -- a walk past them must meet the end
+  pub nth-placed : (rest : List ℕ) (n : ℕ) (xs : List A) (at : ℕ) → (length xs ≤ n → rest ≡ []) → Each F xs → at ≤ length s
+      → drop at s ≡ concatMap put xs ++ rest
       → nthAt view p s n at ≡ shownNth (λ a x. view a (h x)) put (nth (placed put at xs) n)
-  nth-placed zero [] at g l e = step-end at e
-  nth-placed (suc n) [] at g l e = rw (step-end at e)
-  nth-placed zero (x ∷ xs) at g l e = step-there at x (concatMap put xs) (g .0) l e
-  nth-placed (suc n) (x ∷ xs) at g l e =
-      rw (step-there at x (concatMap put xs) (g .0) l e)
-      (nth-placed n xs (at + length (put x)) (g .1) (ends-within at (put x) (concatMap put xs) l e) (rest-at at (put x) (concatMap put xs) e))
+  nth-placed rest zero [] at z g l e = step-end at (e ∙ z (omega arith))
+  nth-placed rest (suc n) [] at z g l e = rw (step-end at (e ∙ z (omega arith)))
+  nth-placed rest zero (x ∷ xs) at z g l e = step-there at x (concatMap put xs ++ rest) (g .0) l (e ∙ append-assoc (put x) (concatMap put xs) rest)
+  nth-placed rest (suc n) (x ∷ xs) at z g l e =
+      let more = concatMap put xs ++ rest in
+      let i : drop at s ≡ put x ++ more = e ∙ append-assoc (put x) (concatMap put xs) rest in
+      rw (step-there at x more (g .0) l i)
+      (nth-placed rest n xs (at + length (put x)) (λ k. z (omega (arith, k))) (g .1) (ends-within at (put x) more l i) (rest-at at (put x) more i))
 
 -- ---- lines
 

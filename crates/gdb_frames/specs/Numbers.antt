@@ -12,10 +12,10 @@ use Rattle.gdb_format.specs.Numbers.{fileNumbers, file-numbers}
 use Rattle.gdb_format.specs.declared.Settings.{Settings}
 use Rattle.gdb_format.specs.declared.Format.{Format}
 use Rattle.gdb_frames.specs.Places.{linesAt, framesAt}
-use Rattle.gdb_frames.specs.Questions.{asked, frameCount, frameRow, frameData, lineAt}
+use Rattle.gdb_frames.specs.Questions.{asked, frameCount, endMark, frameRow, frameData, lineAt}
 use Rattle.gdb_frames.specs.Located.{frameLocated}
 
--- 1 to 10, and 12
+-- a file's, and 12
 abbrev pub questionNumbers : List ℕ
 questionNumbers = fileNumbers ++ notFound ∷ []
 
@@ -35,6 +35,9 @@ module _ {P : ℕ → Type 0} where
 module _ (s : Settings) (b : List ℕ) where
   pub frame-count-numbers : Refuses (OneOf fileNumbers) (asked s b frameCount)
   frame-count-numbers = asked-numbers s b _ (λ f t. refuses-never)
+
+  pub end-mark-numbers : Refuses (OneOf fileNumbers) (asked s b endMark)
+  end-mark-numbers = asked-numbers s b _ (λ f t. refuses-never)
 
   pub locate-numbers : (n : ℕ) → Refuses (OneOf questionNumbers) (asked s b (frameLocated n))
   locate-numbers n = asked-numbers s b _ (λ f t. refuses-next (frame-row-numbers n f t tt) (λ r. refuses-never))

@@ -3,7 +3,7 @@
 use mathlib.Core.Path.{_≡_, refl, sym, ap, _∙_}
 use Prim.Native.Nat.{ℕ, zero, suc, _+_, _≤_}
 use native.Mathlib.Omega.{arith}
-use mathlib.Core.List.{List, [], _∷_, _++_, append-assoc, append-nil}
+use mathlib.Core.List.{List, [], _∷_, _++_, append-assoc}
 use lib.ListN.{length, take, drop, length-append, length-drop}
 use lib.Seq.{take-at}
 use borrow.Author.Tests.{le-leb}
@@ -12,7 +12,7 @@ use Rattle.fields.specs.Number.{Bytes}
 use Rattle.fields.specs.Answer.{Answer, accepted, refused, next, never, next-inv, next-assoc, accepted-one, accepted-inj}
 use Rattle.fields.specs.Element.{nth}
 use Rattle.gdb_format.specs.FrameBytes.{headBytes, head-long, head-first}
-use Rattle.gdb_format.specs.Trace.{Frame, Trace, putLine, headIn, putFrame, dataOf, opening}
+use Rattle.gdb_format.specs.Trace.{Frame, Trace, putLine, headIn, putFrame, putMark, dataOf, opening}
 use Rattle.gdb_format.specs.Decode.{read}
 use Rattle.gdb_format.specs.declared.Settings.{Settings}
 use Rattle.gdb_format.specs.declared.Format.{Format}
@@ -68,8 +68,7 @@ handed b r (accepted q) i e =
 module _ (f : Format) (b : List ℕ) (t : Trace) (i : File f b t) (n a : ℕ) (r : Frame) (g : nth (framesAt f t) n ≡ accepted (a, r)) where
   frame-there : (rest : List ℕ) × (headBytes f (headIn f r) ++ (dataOf f r ++ rest) ≡ drop a b)
   frame-there =
-      let e = frames-behind f b t i ∙ sym (append-nil (concatMap (putFrame f) (t .frames))) in
-      let q = placed-there (putFrame f) b n (t .frames) [] (length (opening (t .lines))) a r e g in
+      let q = placed-there (putFrame f) b n (t .frames) (putMark (t .marked)) (length (opening (t .lines))) a r (frames-behind f b t i) g in
       (q .0, head-first f (headIn f r) (q .0) ∙ sym (q .1))
 
   -- the data, and what follows them
@@ -112,7 +111,7 @@ frame-in-file s b n h =
 module _ (f : Format) (b : List ℕ) (t : Trace) (i : File f b t) (j a : ℕ) (l : List ℕ) (g : nth (linesAt t) j ≡ accepted (a, l)) where
   line-there : (rest : List ℕ) × (drop a b ≡ l ++ 0x0A ∷ rest)
   line-there =
-      let q = placed-there putLine b j (t .lines) (0x0A ∷ concatMap (putFrame f) (t .frames)) 8 a l (lines-behind f b t i) g in
+      let q = placed-there putLine b j (t .lines) (0x0A ∷ (concatMap (putFrame f) (t .frames) ++ putMark (t .marked))) 8 a l (lines-behind f b t i) g in
       (q .0, q .1 ∙ append-assoc l (0x0A ∷ []) (q .0))
 
   pub line-within : a + length l ≤ length b

@@ -67,12 +67,13 @@ shown-length f at (x ∷ xs) = ap suc (shown-length f (at + length (putFrame f x
 
 -- the walk meets them
 rows-shown : (f : Format) (s : List ℕ) (xs : List Frame) (at : ℕ)
-    → ((n : ℕ) → nthHead f s n at ≡ shownNth (frameSeen f) (putFrame f) (nth (placed (putFrame f) at xs) n))
+    → ((n : ℕ) → n < length xs → nthHead f s n at ≡ shownNth (frameSeen f) (putFrame f) (nth (placed (putFrame f) at xs) n))
     → rowsFrom f s (length xs) at ≡ rowsShown f at xs
 rows-shown f s [] at e = refl
 rows-shown f s (x ∷ xs) at e =
-    rw (e 0)
-    (ap (λ rows. frameSeen f at x ∷ rows) (rows-shown f s xs (at + length (putFrame f x)) (λ n. rw (e 0) at (e (suc n)))))
+    let first = e 0 (omega arith) in
+    rw first
+    (ap (λ rows. frameSeen f at x ∷ rows) (rows-shown f s xs (at + length (putFrame f x)) (λ n l. rw first at (e (suc n) (omega (arith, l))))))
 
 -- one row per frame
 pub table-long : (f : Format) (t : Trace) → length (table f t) ≡ length (t .frames)
@@ -80,4 +81,4 @@ table-long f t = shown-length f (length (opening (t .lines))) (t .frames)
 
 pub rows-table : (f : Format) (b : List ℕ) (t : Trace) → File f b t
     → rowsFrom f b (length (t .frames)) (length (opening (t .lines))) ≡ table f t
-rows-table f b t i = rows-shown f b (t .frames) (length (opening (t .lines))) (λ n. head-nth f b t n i)
+rows-table f b t i = rows-shown f b (t .frames) (length (opening (t .lines))) (λ n l. head-nth f b t n i l)

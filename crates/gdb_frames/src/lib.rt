@@ -2,7 +2,8 @@
 ghost use mathlib.Core.Path.{_≡_};
 ghost use Rattle.fields.specs.Answer.{accepted};
 ghost use Rattle.gdb_frames.specs.Places.{partNamed};
-ghost use Rattle.gdb_frames.specs.Questions.{asked, frameCount, frameData, lineAt, linePlace, countMeaning, placeMeaning, lineMeaning, Handed};
+ghost use Rattle.gdb_frames.specs.Questions.{asked, frameCount, endMark, frameData, lineAt, linePlace, Handed};
+ghost use Rattle.gdb_frames.specs.Questions.{countMeaning, markMeaning, placeMeaning, lineMeaning};
 ghost use Rattle.gdb_frames.specs.Nth.{nthHead, nthLine};
 ghost use Rattle.gdb_frames.specs.Located.{locatedMeaning, frameLocated};
 ghost use Rattle.gdb_read.specs.Steps.{frameMeaning};
@@ -27,6 +28,27 @@ pub fn frame_count(settings: Settings, file: &[u8]) -> CountAnswer
     match gdb_read::read(settings, file) {
         Reading::Refused(n) => CountAnswer::Refused(n),
         Reading::Accepted(o) => CountAnswer::Frames(o.frames),
+    }
+}
+
+// Whether the end mark is there, or the refusal.
+pub enum MarkAnswer {
+    Marked,
+    Unmarked,
+    Refused(u8),
+}
+
+pub fn end_mark(settings: Settings, file: &[u8]) -> MarkAnswer
+    ensures { λ r. ⌜ markMeaning r ≡ asked settings (now (file .entry)) endMark ⌝ }
+{
+    match gdb_read::read(settings, file) {
+        Reading::Refused(n) => MarkAnswer::Refused(n),
+        Reading::Accepted(o) => {
+            if o.marked {
+                return MarkAnswer::Marked;
+            }
+            MarkAnswer::Unmarked
+        }
     }
 }
 

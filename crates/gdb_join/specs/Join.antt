@@ -1,6 +1,6 @@
 -- A join: on traces, and the bytes that it gives of two files.
 -- Assumes nothing: these are definitions.
-use mathlib.Core.Bool.{cond}
+use mathlib.Core.Bool.{false, cond, _||_}
 use Prim.Native.Nat.{ℕ}
 use mathlib.Core.List.{List, [], _++_}
 use lib.ListN.{length}
@@ -8,19 +8,19 @@ use lib.Dec.{leb}
 use Rattle.refusals.specs.Refusal.{limit, tooLong, openingsDiffer}
 use Rattle.fields.specs.Word.{sameBytes}
 use Rattle.fields.specs.Answer.{Answer, accepted, refused, next}
-use Rattle.gdb_format.specs.Trace.{Trace, withFrames, opening, encode}
+use Rattle.gdb_format.specs.Trace.{Trace, traceOf, opening, encode}
 use Rattle.gdb_format.specs.Decode.{read}
 use Rattle.gdb_format.specs.declared.Settings.{Settings}
 
 -- ---- traces
 
--- the common opening, the first trace's frames, then the second's
+-- the common opening, the first trace's frames, then the second's; one mark, at the end, exactly if either trace had one
 abbrev pub join : Trace → Trace → Trace
-join t u = withFrames t (t .frames ++ u .frames)
+join t u = traceOf (t .lines) (t .frames ++ u .frames) (t .marked || u .marked)
 
--- the *bare opening*: the opening alone, without frames
+-- the *bare opening*: the opening alone, without frames; unmarked
 abbrev pub bare : Trace → Trace
-bare t = withFrames t []
+bare t = traceOf (t .lines) [] false
 
 -- ---- the bytes of a join, where the output has room
 

@@ -1,8 +1,8 @@
 -- What `joinOf` gives in each case that the code tells apart, and what an accepted join tells of its two files.
 -- Assumes nothing.
 use mathlib.Core.Path.{_≡_, refl, sym, ap, ap₂, _∙_, subst}
-use mathlib.Core.Bool.{Bool, true, false, cond}
-use Prim.Native.Nat.{ℕ, _+_, _-_, _<_, _≤_}
+use mathlib.Core.Bool.{Bool, true, false, cond, _||_}
+use Prim.Native.Nat.{ℕ, _+_, _-_, _*_, _<_, _≤_}
 use native.Mathlib.Omega.{arith}
 use mathlib.Core.List.{List, _++_, append-assoc}
 use lib.ListN.{length, take, drop, getD}
@@ -15,8 +15,8 @@ use Rattle.fields.specs.Lists.{concatMap, concatMap-append}
 use Rattle.fields.specs.Given.{bytes-given, at-case}
 use Rattle.fields.specs.Word.{sameBytes, same-bytes, bytes-same}
 use Rattle.fields.specs.Number.{Bytes}
-use Rattle.fields.specs.Answer.{Answer, accepted, refused, next-inv, refused-inv, cond-inv, never, accepted-one}
-use Rattle.gdb_format.specs.Trace.{Trace, opening, putFrame, encode}
+use Rattle.fields.specs.Answer.{Answer, accepted, refused, next-inv, refused-inv, cond-inv, never, accepted-one, refused-one}
+use Rattle.gdb_format.specs.Trace.{Trace, opening, putFrame, putMark, encode}
 use Rattle.gdb_format.specs.Settings.{settingsOf}
 use Rattle.gdb_format.specs.Decode.{read}
 use Rattle.gdb_format.specs.Exactness.{read-exactness}
@@ -24,15 +24,12 @@ use Rattle.gdb_format.specs.declared.Settings.{Settings}
 use Rattle.gdb_format.specs.declared.Format.{Format}
 use Rattle.gdb_read.specs.Steps.{length-encode, Summary, summaryOf, readSeen, openedMeaning}
 use Rattle.gdb_read.specs.declared.Opened.{Opened}
-use Rattle.gdb_frames.specs.File.{File, WasRead, file-of, front-file, frames-part, frames-last, start-within, opening-front, summary-inv}
+use Rattle.gdb_frames.specs.File.{File, WasRead, file-of, frames-front, frames-part, frames-last, start-within, opening-front, summary-inv}
 use Rattle.gdb_join.specs.Join.{join, withinLimit, joinOf}
 use Rattle.gdb_join.specs.JoinTraces.{length-join}
 use Rattle.gdb_join.specs.Joined.{pairSeen, pairMeaning}
 use Rattle.gdb_join.specs.declared.Pair.{Pair}
 use Rattle.gdb_join.specs.declared.Pair.the-variants as pair
-
-pub refused-same : {A : Type 0} {i j : ℕ} → _≡_ {A = Answer A} (refused i) (refused j) → j ≡ i
-refused-same e = cc
 
 -- ---- refusals of the files
 
@@ -85,24 +82,39 @@ both-told {s} {a} {b} {m} {k} v w P base =
 
 -- ---- the join of two such files
 
+mark-short : (m : Bool) → length (putMark m) ≤ 4
+mark-short true = omega arith
+mark-short false = omega arith
+
 differ : (x y : List ℕ) (w : Bool) → (x ≡ y → ⊥) → sameBytes x y ≡ w → w ≡ false
 differ x y true h e = absurd (h (same-bytes x y e))
 differ x y false h e = refl
 
--- the first file up to where its frames end, then the second's frames
+-- the first file up to where its frames end, then the second's frames, then the mark, if either has one
+abbrev pub joinedMark : Summary → Summary → List ℕ
+joinedMark m k = putMark (m .marked || k .marked)
+
 abbrev pub joinedBytes : List ℕ → List ℕ → Summary → Summary → List ℕ
-joinedBytes a b m k = take (m .end) a ++ take (k .end - k .start) (drop (k .start) b)
+joinedBytes a b m k = (take (m .end) a ++ take (k .end - k .start) (drop (k .start) b)) ++ joinedMark m k
 
 abbrev pub joinedLength : Summary → Summary → ℕ
-joinedLength m k = m .end + (k .end - k .start)
+joinedLength m k = m .end + (k .end - k .start) + length (joinedMark m k)
+
+-- what two readings tell can be added up, and no sum runs over
+abbrev pub Countable : Summary → Summary → Type 0
+Countable m k = (k .start ≤ k .end) × (joinedLength m k ≤ 2 * limit + 4)
 
 module _ {s : Settings} {a b : List ℕ} {f : Format} {t u : Trace} (i : Both s a b f t u) where
   pub joined-bytes : encode f (join t u) ≡ joinedBytes a b (summaryOf f t) (summaryOf f u)
   unfolding encode
   joined-bytes =
-      ap (λ x. opening (t .lines) ++ x) (concatMap-append (putFrame f) (t .frames) (u .frames))
-      ∙ sym (append-assoc (opening (t .lines)) (concatMap (putFrame f) (t .frames)) (concatMap (putFrame f) (u .frames)))
-      ∙ ap₂ (λ x z. x ++ z) (front-file f a t (i .first-file) .laid-out) (sym (frames-part f b u (i .second-file)))
+      let o = opening (t .lines) in
+      let x = concatMap (putFrame f) (t .frames) in
+      let y = concatMap (putFrame f) (u .frames) in
+      let m = putMark (t .marked || u .marked) in
+      ap (λ z. o ++ (z ++ m)) (concatMap-append (putFrame f) (t .frames) (u .frames)) ∙ sym (append-assoc o (x ++ y) m)
+      ∙ ap (λ z. z ++ m)
+      (sym (append-assoc o x y) ∙ ap₂ (λ v w. v ++ w) (sym (frames-front f a t (i .first-file))) (sym (frames-part f b u (i .second-file))))
 
   pub joined-long : length (encode f (join t u)) ≡ joinedLength (summaryOf f t) (summaryOf f u)
   joined-long = omega (arith, length-join f t u)
@@ -134,18 +146,25 @@ module _ {s : Settings} {a b : List ℕ} {f : Format} {t u : Trace} (i : Both s 
 -- ---- the same by what the readings answer, as the code tests it
 
 module _ {s : Settings} {a b : List ℕ} {m k : Summary} (v : WasRead s a m) (w : WasRead s b k) where
-  pub first-short : m .end ≤ limit
-  first-short =
-      both-told v w (λ m k. m .end ≤ limit) (λ f t u i. omega (arith, i .first-file .fits .length-fits, length-encode f t))
+  pub countable : Countable m k
+  countable =
+      both-told v w Countable (λ f t u i. (
+        omega arith,
+        omega (
+          arith,
+          i .first-file .fits .length-fits,
+          i .second-file .fits .length-fits,
+          length-encode f t,
+          length-encode f u,
+          mark-short (t .marked || u .marked),
+        ),
+      ))
 
   pub first-start : m .start ≤ length a
   first-start = both-told v w (λ m k. m .start ≤ length a) (λ f t u i. start-within f a t (i .first-file))
 
   pub second-start : k .start ≤ length b
   second-start = both-told v w (λ m k. k .start ≤ length b) (λ f t u i. start-within f b u (i .second-file))
-
-  pub second-frames : k .start ≤ k .end
-  second-frames = both-told v w (λ m k. k .start ≤ k .end) (λ f t u i. omega arith)
 
   pub pair-differs : (take (m .start) a ≡ take (k .start) b → ⊥) → refused openingsDiffer ≡ pairSeen s a b
   pair-differs =
@@ -184,7 +203,7 @@ pair-refused s a b n ha hb e = by (joinOf s a b) refl
   where
     by : (x : Answer (List ℕ)) → joinOf s a b ≡ x → x ≡ refused n
     by (accepted c) g = let q = join-inv s a b c ha hb g in never (e ∙ sym (pair-gives (q .3) c g))
-    by (refused k) g = ap refused (refused-same (e ∙ sym (pair-of-refused s a b k g)))
+    by (refused k) g = ap refused (refused-one (pair-of-refused s a b k g ∙ sym e))
 
 -- as a place of a proof hands it over: the lent bytes, the case that the answer is, and what its contract says
 pub refused-given : (s : Settings) (a b : List ℕ) {n : ℕ} {r : Pair} → ((i : ℕ) → Fits w8 (getD a i 0)) → ((i : ℕ) → Fits w8 (getD b i 0))
@@ -201,20 +220,22 @@ pub paired-given : {s : Settings} {a b : List ℕ} {x y : Opened} {r : Pair} →
     → r ≡ pair.Sound x y → pairMeaning r ≡ pairSeen s a b → Paired s a b (openedMeaning x) (openedMeaning y)
 paired-given {a = a} {b = b} f h e k = record { first-bytes = bytes-given a f; second-bytes = bytes-given b h; seen = at-case pairMeaning e k }
 
--- the join is the first file's frames behind its opening, and the second's frames
+-- the join is the first file's frames behind its opening, the second's frames, and the mark of either
 pub record Joins (s : Settings) (a b : List ℕ) (m k : Summary) : Type 0 where
   pub gives : joinOf s a b ≡ accepted (joinedBytes a b m k)
   pub long : length (joinedBytes a b m k) ≡ joinedLength m k
+  pub short : joinedLength m k ≤ limit
   pub first-end : m .end ≤ length a
   pub second-start : k .start ≤ k .end
   pub second-end : k .end ≤ length b
 
 joins-both : {s : Settings} {a b : List ℕ} {f : Format} {t u : Trace} → Both s a b f t u → joinOf s a b ≡ accepted (encode f (join t u))
-    → Joins s a b (summaryOf f t) (summaryOf f u)
-joins-both {f = f} {t = t} {u = u} i e =
+    → length (encode f (join t u)) ≤ limit → Joins s a b (summaryOf f t) (summaryOf f u)
+joins-both {f = f} {t = t} {u = u} i e l =
     record {
       gives = e ∙ ap accepted (joined-bytes i);
       long = ap length (sym (joined-bytes i)) ∙ joined-long i;
+      short = omega (arith, l, joined-long i);
       first-end = omega (arith, frames-last f _ t (i .first-file));
       second-start = omega arith;
       second-end = omega (arith, frames-last f _ u (i .second-file));
@@ -226,4 +247,4 @@ pair-joins {s} {a} {b} {m} {k} w =
     let q = join-inv s a b (p .0) (w .first-bytes) (w .second-bytes) (p .1) in
     let i : _≡_ {A = Summary × Summary} (summaryOf (q .0) (q .1), summaryOf (q .0) (q .2)) (m, k) =
     accepted-one (pair-gives (q .3) (p .0) (p .1) ∙ sym (w .seen)) in
-    subst (λ (z : Summary × Summary). Joins s a b (z .0) (z .1)) i (joins-both (q .3) (p .1 ∙ ap accepted (sym (q .6))))
+    subst (λ (z : Summary × Summary). Joins s a b (z .0) (z .1)) i (joins-both (q .3) (p .1 ∙ ap accepted (sym (q .6))) (q .5))

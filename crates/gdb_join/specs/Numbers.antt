@@ -14,7 +14,7 @@ use Rattle.gdb_format.specs.declared.Settings.{Settings}
 use Rattle.gdb_join.specs.Join.{join, joinOf}
 use Rattle.gdb_join.specs.Joined.{pairSeen}
 
--- 1 to 10, and 13
+-- a file's, and 13
 abbrev pub joinableNumbers : List ℕ
 joinableNumbers = fileNumbers ++ openingsDiffer ∷ []
 

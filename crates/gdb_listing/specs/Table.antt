@@ -21,9 +21,9 @@ use Rattle.gdb_format.specs.Layout.{FrameFits}
 use Rattle.gdb_format.specs.Decode.{read}
 use Rattle.gdb_format.specs.Numbers.{fileNumbers, file-numbers}
 use Rattle.gdb_format.specs.declared.Format.{Format}
-use Rattle.gdb_read.specs.Steps.{Row, frameSeen, length-encode, Summary, readSeen}
+use Rattle.gdb_read.specs.Steps.{Row, frameSeen, Summary, readSeen}
 use Rattle.gdb_frames.specs.Questions.{asked, table}
-use Rattle.gdb_frames.specs.File.{File, file-of, asked-refused, told}
+use Rattle.gdb_frames.specs.File.{File, file-of, frames-last, asked-refused, told}
 use Rattle.gdb_frames.specs.Rows.{rowsFrom, rowsShown, table-long, rows-table}
 use Rattle.gdb_listing.specs.Text.{decimal, ended, lineOf, framesWord, refusedWord, text, listingLimit, little, wholeTable, listed}
 use Rattle.gdb_listing.specs.DecimalLaws.{decimal-long, ended-length, line-short}
@@ -49,11 +49,8 @@ lines-short f size (x ∷ xs) at g h =
 -- ---- an accepted file
 
 module _ (f : Format) (b : List ℕ) (t : Trace) (i : File f b t) where
-  file-length : length (opening (t .lines)) + length (concatMap (putFrame f) (t .frames)) ≡ length b
-  file-length = sym (length-encode f t) ∙ ap length (i .laid-out)
-
   pub frames-few : 6 * length (t .frames) ≤ length b
-  frames-few = omega (arith, frames-length f (t .frames), file-length)
+  frames-few = omega (arith, frames-length f (t .frames), frames-last f b t i)
 
   pub listable : length b ≤ listingLimit → Listable f b (length (t .frames)) (length (opening (t .lines)))
   listable h =
@@ -61,7 +58,7 @@ module _ (f : Format) (b : List ℕ) (t : Trace) (i : File f b t) where
         count = ap length (rows-table f b t i) ∙ table-long f t;
         few = omega (arith, frames-few);
         short = rw (rows-table f b t i) (lines-short f (registerSize f (t .lines)) (t .frames) (length (opening (t .lines)))
-            (i .fits .frames-fit) (omega (arith, file-length)));
+            (i .fits .frames-fit) (omega (arith, h, frames-last f b t i)));
       }
 
 -- how long a text is

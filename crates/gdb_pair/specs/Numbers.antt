@@ -13,7 +13,7 @@ use Rattle.gdb_blocks.specs.Numbers.{variable-numbers}
 use Rattle.gdb_join.specs.Numbers.{joinableNumbers, joined-numbers}
 use Rattle.gdb_pair.specs.Pair.{pairPlace, pairVariable}
 
--- 1 to 10, 13 and 12
+-- a file's, 13 and 12
 abbrev pub pairNumbers : List ℕ
 pairNumbers = joinableNumbers ++ notFound ∷ []
 

@@ -1,79 +1,98 @@
 -- What a frame's step answers in each case that the code tells apart: first its head, then its blocks.
 -- Assumes nothing.
-use mathlib.Core.Path.{_≡_, sym, ap, _∙_}
+use mathlib.Core.Path.{_≡_, refl, sym, ap, _∙_}
+use mathlib.Core.Bool.{cond}
 use mathlib.Core.Option.{Option, none, some}
 use Prim.Native.Nat.{ℕ, _+_, _-_, _<_, _≤_}
-use native.Mathlib.Nat.{lt-of-not-le}
-use native.Mathlib.Decide.{decLe}
 use native.Mathlib.Omega.{arith}
-use mathlib.Core.Logic.{by-cases}
 use mathlib.Core.List.{List, _++_}
 use lib.ListN.{length, take, drop, length-drop}
-use Rattle.refusals.specs.Refusal.{shortHead, dataPastFile}
+use lib.Dec.{eqb}
+use borrow.Author.Tests.{eq-eqb, ne-eqb}
+use Rattle.refusals.specs.Refusal.{shortHead, dataPastFile, badMark}
 use Rattle.fields.specs.Lists.{length-part, part-front, part-there, part-lengths}
 use Rattle.fields.specs.Number.{Bytes, number, wordAt, word-in, bytes-drop, bytes-take}
-use Rattle.fields.specs.Answer.{accepted, refused, refused-inv, next-inv}
-use Rattle.fields.specs.Reader.{stepAt, toEnd}
+use Rattle.fields.specs.Answer.{accepted, refused, refused-inv, next, next-inv}
+use Rattle.fields.specs.Reader.{refuse, bytes, stepAt, toEnd}
 use Rattle.fields.specs.Exact.{forth-toEnd}
 use Rattle.fields.specs.At.{bytes-short, bytes-at, num-short, num-at, step-none, step-fault, step-read, step-end, step-refused, Turn}
 use Rattle.gdb_format.specs.Trace.{Block, Frame, dataOf}
-use Rattle.gdb_format.specs.Decode.{block, blocks, frameHead, frame}
+use Rattle.gdb_format.specs.Decode.{block, blocks, numbered, frameHead, frame}
 use Rattle.gdb_format.specs.ExactBlock.{exact-block, shorter-block}
 use Rattle.gdb_format.specs.FrameBytes.{headBytes, head-long, head-first}
 use Rattle.gdb_format.specs.ExactFrame.{exact-head, takes-head}
+use Rattle.fields.specs.declared.Order.{Order}
+use Rattle.fields.specs.declared.Order.the-variants.{Little, Big}
 use Rattle.gdb_format.specs.declared.Format.{Format}
 use Rattle.gdb_data.specs.Blocks.{blocksFill}
 use Rattle.gdb_read.specs.Steps.{Row, headSeen, frameSeen}
 
 -- ---- the head
 
+-- two bytes are 0 in both orders or in neither
+either-zero : (o : Order) (s : List ℕ) (at : ℕ) → wordAt Little 2 s at ≡ 0 → wordAt o 2 s at ≡ 0
+either-zero Little s at e = e
+either-zero Big s at e = omega (arith, e)
+
+neither-zero : (o : Order) (s : List ℕ) (at : ℕ) → wordAt o 2 s at ≡ 0 → wordAt Little 2 s at ≡ 0
+neither-zero Little s at e = e
+neither-zero Big s at e = omega (arith, e)
+
 module _ (f : Format) (s : List ℕ) (at : ℕ) (h : at < length s) where
-  pub head-none : length s - at < 6 → refused shortHead ≡ stepAt headSeen (frameHead f) s at
+  pub head-none : length s - at < 2 → refused shortHead ≡ stepAt headSeen (frameHead f) s at
   unfolding frameHead
-  head-none l =
-      sym (step-fault headSeen (frameHead f) s at shortHead h
-      (by-cases (decLe 2 (length s - at))
-      (λ k. rw (num-at s at (f .order) 2 shortHead (omega arith) k, num-short s (at + 2) (f .order) 4 shortHead (omega arith)))
-      (λ k. rw (num-short s at (f .order) 2 shortHead (lt-of-not-le k)))))
+  head-none l = sym (step-fault headSeen (frameHead f) s at shortHead h (rw (num-short s at (f .order) 2 shortHead l)))
 
-  module _ (l : 6 ≤ length s - at) (n k : ℕ) (e : n ≡ wordAt (f .order) 2 s at) (g : k ≡ wordAt (f .order) 4 s (at + 2)) where
-    number-is : n ≡ number (f .order) (take 2 (drop at s))
-    number-is = e ∙ word-in (f .order) 2 s at (omega arith)
+  -- a number stands there, with n, what its bytes are in little order
+  module _ (l : 2 ≤ length s - at) (n : ℕ) (e : n ≡ wordAt Little 2 s at) where
+    abbrev tracepoint : ℕ
+    tracepoint = wordAt (f .order) 2 s at
 
-    size-is : k ≡ number (f .order) (take 4 (drop (at + 2) s))
-    size-is = g ∙ word-in (f .order) 4 s (at + 2) (omega arith)
-
-    pub head-over : length s - (at + 6) < k → refused dataPastFile ≡ stepAt headSeen (frameHead f) s at
+    head-number : frameHead f (drop at s) ≡ cond (eqb tracepoint 0) (refuse badMark) (numbered f tracepoint) (drop (at + 2) s)
     unfolding frameHead
-    head-over v =
-        let i : at + 2 + 4 ≡ at + 6 = omega arith in
-        sym (step-fault headSeen (frameHead f) s at dataPastFile h
-        (rw (
-          num-at s at (f .order) 2 shortHead (omega arith) (omega arith),
-          num-at s (at + 2) (f .order) 4 shortHead (omega arith) (omega arith),
-          i,
-          ← size-is,
-          bytes-short s (at + 6) k dataPastFile v,
-        )))
+    head-number = rw (num-at s at (f .order) 2 shortHead (omega arith) (omega arith), ← word-in (f .order) 2 s at (omega arith))
 
-    head-body : k ≤ length s - (at + 6) → frameHead f (drop at s) ≡ accepted ((n, take k (drop (at + 6) s)), drop (at + 6 + k) s)
-    unfolding frameHead
-    head-body v =
-        let i : at + 2 + 4 ≡ at + 6 = omega arith in
-        rw (
-          num-at s at (f .order) 2 shortHead (omega arith) (omega arith),
-          num-at s (at + 2) (f .order) 4 shortHead (omega arith) (omega arith),
-          i,
-          ← size-is,
-          ← number-is,
-          bytes-at s (at + 6) k dataPastFile (omega arith) v,
-        )
+    pub head-zero : n ≡ 0 → refused badMark ≡ stepAt headSeen (frameHead f) s at
+    head-zero z =
+        sym (step-fault headSeen (frameHead f) s at badMark h (head-number ∙ rw (eq-eqb tracepoint 0 (either-zero (f .order) s at (sym e ∙ z)))))
 
-    pub head-whole : k ≤ length s - (at + 6)
-        → accepted (some (record { tracepoint = n; place = at + 6; size = k }, at + 6 + k)) ≡ stepAt headSeen (frameHead f) s at
-    head-whole v =
-        sym (step-read headSeen (frameHead f) s at (n, take k (drop (at + 6) s)) (at + 6 + k) h (omega arith) (head-body v)
-        ∙ rw (length-part s (at + 6) k (omega arith)))
+    -- which is not 0
+    module _ (z : n ≡ 0 → ⊥) where
+      pub head-rest : frameHead f (drop at s) ≡ numbered f tracepoint (drop (at + 2) s)
+      head-rest = head-number ∙ rw (ne-eqb tracepoint 0 (λ y. z (e ∙ neither-zero (f .order) s at y)))
+
+      pub head-short : length s - at < 6 → refused shortHead ≡ stepAt headSeen (frameHead f) s at
+      unfolding numbered
+      head-short v = sym (step-fault headSeen (frameHead f) s at shortHead h (head-rest ∙ rw (num-short s (at + 2) (f .order) 4 shortHead (omega arith))))
+
+-- a number that is not 0, and a size
+pub record Sized (f : Format) (s : List ℕ) (at n k : ℕ) : Type 0 where
+  pub within : 6 ≤ length s - at
+  pub number : n ≡ wordAt (f .order) 2 s at
+  pub not-zero : wordAt Little 2 s at ≡ 0 → ⊥
+  pub size : k ≡ wordAt (f .order) 4 s (at + 2)
+
+module _ {f : Format} {s : List ℕ} {at n k : ℕ} (i : Sized f s at n k) where
+  head-size : frameHead f (drop at s) ≡ next (bytes k dataPastFile (drop (at + 6) s)) (λ r. accepted ((n, r .0), r .1))
+  unfolding numbered
+  head-size =
+      let l : 6 ≤ length s - at = i .within in
+      let six : at + 2 + 4 ≡ at + 6 = omega arith in
+      let size : k ≡ number (f .order) (take 4 (drop (at + 2) s)) = i .size ∙ word-in (f .order) 4 s (at + 2) (omega (arith, l)) in
+      head-rest f s at (omega (arith, l)) (omega (arith, l)) _ refl (i .not-zero)
+      ∙ rw (← i .number, num-at s (at + 2) (f .order) 4 shortHead (omega (arith, l)) (omega (arith, l)), six, ← size)
+
+  pub head-over : length s - (at + 6) < k → refused dataPastFile ≡ stepAt headSeen (frameHead f) s at
+  head-over v =
+      sym (step-fault headSeen (frameHead f) s at dataPastFile (omega (arith, i .within)) (head-size ∙ rw (bytes-short s (at + 6) k dataPastFile v)))
+
+  pub head-whole : k ≤ length s - (at + 6)
+      → accepted (some (record { tracepoint = n; place = at + 6; size = k }, at + 6 + k)) ≡ stepAt headSeen (frameHead f) s at
+  head-whole v =
+      let l : 6 ≤ length s - at = i .within in
+      sym (step-read headSeen (frameHead f) s at (n, take k (drop (at + 6) s)) (at + 6 + k) (omega (arith, l)) (omega (arith, l, v))
+      (head-size ∙ rw (bytes-at s (at + 6) k dataPastFile (omega (arith, l)) v))
+      ∙ rw (length-part s (at + 6) k (omega (arith, l, v))))
 
 -- ---- from the head to the frame
 

@@ -1,3 +1,4 @@
 pub mod Frames
+pub mod Marks
 pub mod Walks
 pub mod Whole

@@ -1,13 +1,15 @@
 -- What the walk's steps and the whole reading answer, in the paper's terms.
 -- Assumes nothing.
+use mathlib.Core.Bool.{Bool}
 use mathlib.Core.Option.{Option, none, some}
 use mathlib.Core.Path.{_≡_}
 use Prim.Native.Nat.{ℕ, _+_}
-use mathlib.Core.List.{List}
+use native.Mathlib.Omega.{arith}
+use mathlib.Core.List.{List, _++_}
 use lib.ListN.{length, length-append}
 use Rattle.fields.specs.Lists.{concatMap}
 use Rattle.fields.specs.Answer.{Answer, accepted, refused, next}
-use Rattle.gdb_format.specs.Trace.{Frame, Trace, opening, headIn, putFrame, encode}
+use Rattle.gdb_format.specs.Trace.{Frame, Trace, opening, headIn, putFrame, putMark, encode}
 use Rattle.gdb_format.specs.Lines.{registerSize}
 use Rattle.gdb_format.specs.Decode.{frames}
 use Rattle.gdb_format.specs.Opening.{sizeMeaning}
@@ -45,13 +47,13 @@ frameMeaning framestep.End = accepted none
 frameMeaning (framestep.Frame h m) = accepted (some (headMeaning h, m))
 frameMeaning (framestep.Refused n) = refused n
 
--- the number of frames
-abbrev pub framesMeaning : Count → Answer ℕ
-framesMeaning (count.Frames n) = accepted n
+-- the number of frames, and whether the end mark stands behind them
+abbrev pub framesMeaning : Count → Answer (ℕ × Bool)
+framesMeaning (count.Frames n m) = accepted (n, m)
 framesMeaning (count.Refused n) = refused n
 
-abbrev pub framesCounted : Format → Option ℕ → List ℕ → Answer ℕ
-framesCounted f size b = next (frames f size b) (λ fs. accepted (length fs))
+abbrev pub framesCounted : Format → Option ℕ → List ℕ → Answer (ℕ × Bool)
+framesCounted f size b = next (frames f size b) (λ q. accepted (length (q .0), q .1))
 
 -- ---- the whole file
 
@@ -59,18 +61,24 @@ framesCounted f size b = next (frames f size b) (λ fs. accepted (length fs))
 abbrev pub framesEnd : Format → Trace → ℕ
 framesEnd f t = length (opening (t .lines)) + length (concatMap (putFrame f) (t .frames))
 
--- it is the file's length
-pub length-encode : (f : Format) (t : Trace) → length (encode f t) ≡ framesEnd f t
+-- behind it stands the mark, if any
+pub length-encode : (f : Format) (t : Trace) → length (encode f t) ≡ framesEnd f t + length (putMark (t .marked))
 unfolding encode
-length-encode f t = length-append (opening (t .lines)) (concatMap (putFrame f) (t .frames))
+length-encode f t =
+    omega (
+      arith,
+      length-append (opening (t .lines)) (concatMap (putFrame f) (t .frames) ++ putMark (t .marked)),
+      length-append (concatMap (putFrame f) (t .frames)) (putMark (t .marked)),
+    )
 
--- what a reading tells: the format, the register size or none, the places where frames start and end, the number of frames
+-- what a reading tells: the format, the register size or none, the places where frames start and end, the number of frames, and whether the end mark is there
 pub record Summary : Type 0 where
   pub format : Format
   pub size : Option ℕ
   pub start : ℕ
   pub end : ℕ
   pub frames : ℕ
+  pub marked : Bool
 
 abbrev pub summaryOf : Format → Trace → Summary
 summaryOf f t =
@@ -80,6 +88,7 @@ summaryOf f t =
       start = length (opening (t .lines));
       end = framesEnd f t;
       frames = length (t .frames);
+      marked = t .marked;
     }
 
 abbrev pub summaryIn : Format → Answer Trace → Answer Summary
@@ -90,7 +99,8 @@ readSeen x = next x (λ r. accepted (summaryOf (r .0) (r .1)))
 
 -- what `Opened` and `Reading` say
 abbrev pub openedMeaning : Opened → Summary
-openedMeaning o = record { format = o .format; size = sizeMeaning (o .size); start = o .start; end = o .end; frames = o .frames }
+openedMeaning o =
+    record { format = o .format; size = sizeMeaning (o .size); start = o .start; end = o .end; frames = o .frames; marked = o .marked }
 
 abbrev pub readingMeaning : Reading → Answer Summary
 readingMeaning (reading.Accepted o) = accepted (openedMeaning o)

@@ -1,17 +1,24 @@
 // Reading a GDB trace: what frame stands at a place, and the whole file.
 ghost use mathlib.Core.Path.{_≡_};
-ghost use lib.ListN.{take, drop};
+ghost use Prim.Native.Nat.{_-_, _<_};
+ghost use lib.ListN.{length, take, drop};
+ghost use Rattle.fields.specs.Answer.{refused};
+ghost use Rattle.fields.specs.Word.{sameBytes};
 ghost use Rattle.fields.specs.Reader.{stepAt};
+ghost use Rattle.gdb_format.specs.Trace.{mark, putMark};
 ghost use Rattle.gdb_format.specs.Opening.{sizeMeaning};
+ghost use Rattle.gdb_format.specs.declared.Format.{Format};
 ghost use Rattle.gdb_format.specs.Decode.{frameHead, frame, decode};
 ghost use Rattle.gdb_format.specs.Decode.{read as fileRead};
 ghost use Rattle.gdb_read.specs.Steps.{frameMeaning, headSeen, frameSeen, framesMeaning, framesCounted, readingMeaning, summaryIn, readSeen};
+use fields::Order;
 use gdb_data::Verdict;
 use gdb_format::Checked;
 use gdb_format::Format;
 use gdb_format::Opening;
 use gdb_format::RegisterSize;
 use gdb_format::Settings;
+use refusals::BAD_MARK;
 use refusals::DATA_PAST_FILE;
 use refusals::LIMIT;
 use refusals::SHORT_HEAD;
@@ -24,14 +31,30 @@ pub struct FrameHead {
     pub size: usize,
 }
 
-// What stands where a frame may start: the end of the file, a frame with the place after it, or a refusal.
+// What stands where a frame may start: the end of the file, a frame with the place after it, or a refusal. The end mark is no frame: 18 here.
+// So a walk is given the file up to where its frames end (`front`), goes by their number, or asks for the mark first (`frames_from`).
 pub enum FrameStep {
     End,
     Frame { head: FrameHead, next: usize },
     Refused(u8),
 }
 
-// What stands at `at`; a frame's blocks are not looked at.
+// Why the 1 to 5 bytes from `at` on begin no frame, in either order: two bytes of 0 begin the end mark.
+fn short_head(s: &[u8], at: usize) -> u8
+    requires { ⌜ (at < length (now s)) × (length (now s) - at < 6) ⌝ }
+    ensures { λ r. ⌜ ((f : Format) → refused r ≡ stepAt headSeen (frameHead f) (now (s .entry)) at) ⌝ }
+{
+    if s.len() - at < 2 {
+        return SHORT_HEAD;
+    }
+    if fields::u16_at(s, Order::Little, at) == 0 {
+        return BAD_MARK;
+    }
+    SHORT_HEAD
+}
+
+// What stands at `at`; a frame's blocks are not looked at. Two bytes are 0 in both orders or in neither, so they are tested without a look at
+// the order: the whole reading asks for no number.
 pub fn head_at(format: Format, s: &[u8], at: usize) -> FrameStep
     ensures { λ r. ⌜ frameMeaning r ≡ stepAt headSeen (frameHead format) (now (s .entry)) at ⌝ }
 {
@@ -39,7 +62,10 @@ pub fn head_at(format: Format, s: &[u8], at: usize) -> FrameStep
         return FrameStep::End;
     }
     if s.len() - at < 6 {
-        return FrameStep::Refused(SHORT_HEAD);
+        return FrameStep::Refused(short_head(s, at));
+    }
+    if fields::u16_at(s, Order::Little, at) == 0 {
+        return FrameStep::Refused(BAD_MARK);
     }
     let order = format.order;
     let tracepoint = fields::u16_at(s, order, at);
@@ -77,21 +103,53 @@ pub fn frame_at(format: Format, size: RegisterSize, s: &[u8], at: usize) -> Fram
     }
 }
 
+// Whether the end mark stands at `at`: exactly four bytes to the end, all 0.
+fn mark_at(s: &[u8], at: usize) -> bool
+    ensures { λ r. ⌜ r ≡ sameBytes (drop at (now (s .entry))) mark ⌝ }
+{
+    if s.len() < at {
+        return false;
+    }
+    if s.len() - at != 4 {
+        return false;
+    }
+    fields::u32_at(s, Order::Little, at) == 0
+}
+
+// How many bytes the end mark takes, where there is one.
+pub fn mark_length(marked: bool) -> usize
+    ensures { λ r. ⌜ r ≡ length (putMark marked) ⌝ }
+{
+    if marked {
+        return 4;
+    }
+    0
+}
+
 enum Count {
-    Frames(usize),
+    Frames { count: usize, marked: bool },
     Refused(u8),
 }
 
-// How many frames fill `s` from `from` on.
+// How many frames stand in `s` from `from` on, up to its end or to the end mark.
 fn frames_from(format: Format, size: RegisterSize, s: &[u8], from: usize) -> Count
     ensures { λ r. ⌜ framesMeaning r ≡ framesCounted format (sizeMeaning size) (drop from (now (s .entry))) ⌝ }
 {
     let mut at = from;
     let mut n: usize = 0;
     loop {
+        if mark_at(s, at) {
+            return Count::Frames {
+                count: n,
+                marked: true,
+            };
+        }
         match frame_at(format, size, s, at) {
             FrameStep::End => {
-                return Count::Frames(n);
+                return Count::Frames {
+                    count: n,
+                    marked: false,
+                };
             }
             FrameStep::Refused(k) => {
                 return Count::Refused(k);
@@ -104,13 +162,15 @@ fn frames_from(format: Format, size: RegisterSize, s: &[u8], from: usize) -> Cou
     }
 }
 
-// A file that was read whole: how, the register size that it states, where its frames start and end, and how many it has.
+// A file that was read whole: how, the register size that it states, where its frames start and end, how many it has, and whether the mark
+// stands behind them.
 pub struct Opened {
     pub format: Format,
     pub size: RegisterSize,
     pub start: usize,
     pub end: usize,
     pub frames: usize,
+    pub marked: bool,
 }
 
 pub enum Reading {
@@ -138,12 +198,13 @@ fn read_as(format: Format, file: &[u8]) -> Reading
         Opening::Refused(n) => Reading::Refused(n),
         Opening::Found { end, size } => match frames_from(format, size, file, end) {
             Count::Refused(n) => Reading::Refused(n),
-            Count::Frames(frames) => Reading::Accepted(Opened {
+            Count::Frames { count, marked } => Reading::Accepted(Opened {
                 format,
                 size,
                 start: end,
-                end: file.len(),
-                frames,
+                end: file.len() - mark_length(marked),
+                frames: count,
+                marked,
             }),
         },
     }

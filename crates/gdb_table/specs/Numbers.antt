@@ -12,7 +12,7 @@ use Rattle.gdb_frames.specs.Numbers.{asked-numbers}
 use Rattle.gdb_table.specs.Records.{frameTable}
 use Rattle.gdb_table.specs.declared.FrameRecord.{FrameRecord}
 
--- 1 to 10, and 11
+-- a file's, and 11
 abbrev pub tableNumbers : List ℕ
 tableNumbers = fileNumbers ++ noRoom ∷ []
 

@@ -1,7 +1,7 @@
 -- Document 01's cases marked (P), as one table, and the one statement about it. Bytes and refusals are the paper's own.
 -- Assumes nothing.
 use mathlib.Core.Path.{_≡_, refl}
-use mathlib.Core.Bool.{true}
+use mathlib.Core.Bool.{Bool, true}
 use Prim.Native.Nat.{ℕ, _-_, _^_}
 use mathlib.Core.List.{List, [], _∷_, _++_}
 use lib.ListN.{take, replicate}
@@ -13,7 +13,7 @@ use Rattle.gdb_format.specs.Decode.{read}
 use Rattle.gdb_format.specs.declared.Settings.{Settings}
 use Rattle.gdb_read.specs.Steps.{Row}
 use Rattle.gdb_frames.specs.Places.{part}
-use Rattle.gdb_frames.specs.Questions.{asked, table}
+use Rattle.gdb_frames.specs.Questions.{asked, endMark, table}
 use Rattle.gdb_blocks.specs.Search.{registersAt, memoryAt, variableAt}
 use Rattle.gdb_cut.specs.Cut.{cutOf}
 use Rattle.gdb_select.specs.declared.Range.{Range}
@@ -21,6 +21,7 @@ use Rattle.gdb_select.specs.declared.Selection.{Selection}
 
 pub data Question : Type 0 where
   frames : Question
+  marked : Question  -- whether the end mark is there
   registers : ℕ → Question  -- of a frame
   memory : ℕ → ℕ → Question  -- in a frame, at an address
   variable : ℕ → ℕ → Question  -- in a frame, by number
@@ -28,6 +29,7 @@ pub data Question : Type 0 where
 
 pub data Reply : Type 0 where
   rows : List Row → Reply
+  told : Bool → Reply
   bytes : List ℕ → Reply
   value : ℤ → Reply
 
@@ -36,6 +38,7 @@ ofPart b a = next a (λ r. accepted (bytes (part b (accepted r))))
 
 abbrev pub about : Settings → List ℕ → Question → Answer Reply
 about s b frames = asked s b (λ f t. accepted (rows (table f t)))
+about s b marked = next (asked s b endMark) (λ m. accepted (told m))
 about s b (registers n) = ofPart b (asked s b (registersAt n))
 about s b (memory n a) = ofPart b (asked s b (memoryAt n a))
 about s b (variable n v) = next (asked s b (variableAt n v)) (λ z. accepted (value z))
@@ -58,7 +61,7 @@ little b q r = record { settings = record { order = 0 }; file = b; question = q;
 abbrev big : List ℕ → Question → Answer Reply → Case
 big b q r = record { settings = record { order = 1 }; file = b; question = q; reply = r }
 
-abbrev row : ℕ → ℕ → ℕ → Row
+abbrev pub row : ℕ → ℕ → ℕ → Row
 row n at k = record { tracepoint = n; place = at; size = k }
 
 -- H, in document 01's bytes

@@ -17,19 +17,20 @@ use Rattle.gdb_select.specs.declared.Selection.{Selection}
 use Rattle.gdb_join.specs.Join.{joinOf}
 use Rattle.paper_cases.specs.Cases.{Question, frames, memory, variable, cut, Reply, rows, bytes, value, Case, Holds, h, bare, empty1, empty2, range}
 
--- the numbers of document 01's table, in its order
+-- the numbers of document 01's table, in its order, and C-11's
 abbrev named : List ℕ
 named =
     no.tooLong ∷ no.badArgument ∷ no.badHead ∷ no.noEmptyLine ∷ no.badLine ∷ no.shortHead ∷ no.dataPastFile ∷ no.badLetter ∷ no.blockPastData
-    ∷ no.noRegisterSize ∷ no.noRoom ∷ no.notFound ∷ no.openingsDiffer ∷ no.fieldPastFile ∷ no.badConstant ∷ no.badRange ∷ no.rangesOverlap ∷ []
+    ∷ no.noRegisterSize ∷ no.noRoom ∷ no.notFound ∷ no.openingsDiffer ∷ no.fieldPastFile ∷ no.badConstant ∷ no.badRange ∷ no.rangesOverlap
+    ∷ no.badMark ∷ []
 
-pub numbers : named ≡ 1 ∷ 2 ∷ 3 ∷ 4 ∷ 5 ∷ 6 ∷ 7 ∷ 8 ∷ 9 ∷ 10 ∷ 11 ∷ 12 ∷ 13 ∷ 14 ∷ 15 ∷ 16 ∷ 17 ∷ []
+pub numbers : named ≡ 1 ∷ 2 ∷ 3 ∷ 4 ∷ 5 ∷ 6 ∷ 7 ∷ 8 ∷ 9 ∷ 10 ∷ 11 ∷ 12 ∷ 13 ∷ 14 ∷ 15 ∷ 16 ∷ 17 ∷ 18 ∷ []
 numbers = refl
 
 -- ---- rows
 
 -- in byte order o
-abbrev ordered : ℕ → List ℕ → Question → Answer Reply → Case
+abbrev pub ordered : ℕ → List ℕ → Question → Answer Reply → Case
 ordered o b q r = record { settings = record { order = o }; file = b; question = q; reply = r }
 
 -- a description of one line, and no frames
@@ -40,7 +41,7 @@ abbrev registerLine : List ℕ → List ℕ
 registerLine d = lined (0x52 ∷ 0x20 ∷ d)
 
 -- one range, with 2..2 behind those that are stated
-abbrev stated : ℕ → Bool → Range → Selection
+abbrev pub stated : ℕ → Bool → Range → Selection
 stated n k r = record { ranges = r ∷ range 2 2 ∷ replicate 6 (range 0 0); count = n; keep = k }
 
 -- eight ranges of one number each, and a count of nine
@@ -51,7 +52,7 @@ abbrev empty3 : List ℕ
 empty3 = 3 ∷ 0 ∷ 0 ∷ 0 ∷ 0 ∷ 0 ∷ []
 
 -- frames 1, 2, 3, 1
-abbrev four : List ℕ
+abbrev pub four : List ℕ
 four = empty1 ++ empty2 ++ empty3 ++ empty1
 
 abbrev edges : List Case
@@ -87,7 +88,7 @@ edges-hold =
     (refl, (refl, (refl, (refl, (refl, (refl, (refl, (refl, (refl, (refl, (refl, (refl, (refl, (refl, (refl, (refl, (refl, (refl, tt))))))))))))))))))
 
 -- a join has the first trace's frames first; 13 where the openings differ
-abbrev little : List ℕ → List ℕ → Answer (List ℕ)
+abbrev pub little : List ℕ → List ℕ → Answer (List ℕ)
 little a b = joinOf (record { order = 0 }) a b
 
 pub joins-hold : (little (bare empty1) (bare empty2) ≡ accepted (bare (empty1 ++ empty2))) × (little (bare empty1) (lined (0x78 ∷ [])) ≡ refused 13)

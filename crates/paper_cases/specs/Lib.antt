@@ -1,5 +1,6 @@
 pub mod Cases
 pub mod Edges
+pub mod Marks
 pub mod ListingCases
 pub mod Limit
 pub mod DatCases

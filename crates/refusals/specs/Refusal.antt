@@ -1,4 +1,4 @@
--- The numbers returned on refusal, as document 01's table has them.
+-- The numbers returned on refusal, as document 01's table has them, and what the requests of document 02 add to it.
 -- Assumes nothing: these are definitions.
 use Prim.Native.Nat.{ℕ, _≤_}
 
@@ -26,7 +26,7 @@ noEmptyLine = 4
 abbrev pub badLine : ℕ
 badLine = 5
 
--- 1 to 5 bytes remain where a frame head should start
+-- 1 to 5 bytes remain where a frame head should start, and do not begin with two bytes of 0
 abbrev pub shortHead : ℕ
 shortHead = 6
 
@@ -74,9 +74,13 @@ badRange = 16
 abbrev pub rangesOverlap : ℕ
 rangesOverlap = 17
 
+-- a bad end mark: two bytes of 0 where a frame head should start, and not exactly four bytes of 0 from them to the file's end
+abbrev pub badMark : ℕ
+badMark = 18
+
 -- the table's last number
 abbrev pub last : ℕ
-last = rangesOverlap
+last = badMark
 
 -- a number of the table
 abbrev pub Listed : ℕ → Type 0

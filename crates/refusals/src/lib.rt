@@ -1,4 +1,4 @@
-// The numbers returned on refusal, as document 01's table has them. specs/Refusal.antt gives the same names.
+// The numbers returned on refusal, as document 01's table and the requests of document 02 have them. specs/Refusal.antt gives the same names.
 
 // The longest file, 64 MiB.
 pub const LIMIT: usize = 67108864;
@@ -13,7 +13,7 @@ pub const BAD_HEAD: u8 = 3;
 pub const NO_EMPTY_LINE: u8 = 4;
 // An ended `R ` line breaks its form, or a second `R ` or `status ` line.
 pub const BAD_LINE: u8 = 5;
-// 1 to 5 bytes remain where a frame head should start.
+// 1 to 5 bytes remain where a frame head should start, and do not begin with two bytes of 0.
 pub const SHORT_HEAD: u8 = 6;
 // A frame's data runs past the file.
 pub const DATA_PAST_FILE: u8 = 7;
@@ -37,3 +37,5 @@ pub const BAD_CONSTANT: u8 = 15;
 pub const BAD_RANGE: u8 = 16;
 // Two CPU ranges overlap.
 pub const RANGES_OVERLAP: u8 = 17;
+// A bad end mark: two bytes of 0 where a frame head should start, and not exactly four bytes of 0 from them to the file's end.
+pub const BAD_MARK: u8 = 18;

@@ -12,8 +12,8 @@ use Rattle.fields.specs.Output.{answer}
 use Rattle.fields.specs.Refuses.{Refuses, OneOf, refuses-in}
 use Rattle.gdb_format.specs.Numbers.{fileNumbers}
 use Rattle.gdb_format.specs.declared.Settings.{Settings}
-use Rattle.gdb_frames.specs.Questions.{asked, frameCount, frameData, lineAt}
-use Rattle.gdb_frames.specs.Numbers.{questionNumbers, frame-count-numbers, frame-place-numbers, line-place-numbers}
+use Rattle.gdb_frames.specs.Questions.{asked, frameCount, endMark, frameData, lineAt}
+use Rattle.gdb_frames.specs.Numbers.{questionNumbers, frame-count-numbers, end-mark-numbers, frame-place-numbers, line-place-numbers}
 use Rattle.gdb_blocks.specs.Search.{blockAt, registersAt, memoryAt, variableAt}
 use Rattle.gdb_blocks.specs.Numbers.{block-record-numbers, registers-place-numbers, memory-place-numbers, variable-numbers}
 use Rattle.gdb_table.specs.Records.{frameTable}
@@ -29,7 +29,7 @@ use Rattle.gdb_pair.specs.Numbers.{pairNumbers, pair-place-numbers, pair-variab
 use Rattle.dat_format.specs.Numbers.{datNumbers}
 use Rattle.tracedat.specs.Questions.{summed, cpuRange}
 use Rattle.tracedat.specs.Numbers.{rangeNumbers, summary-numbers, cpu-range-numbers}
-use Rattle.gdb_flat.specs.Flat.{flatCount, flatPlace, flatLine, flatBlock, flatValue, flatLength, flatPair}
+use Rattle.gdb_flat.specs.Flat.{flatCount, flatMark, flatPlace, flatLine, flatBlock, flatValue, flatLength, flatPair}
 use Rattle.dat_flat.specs.Flat.{flatSummary, flatRange}
 
 -- a call with the answer x, which `flat` makes a struct
@@ -51,6 +51,10 @@ module _ (s : Settings) (b : List ℕ) where
   pub frame-count-told : Told flatCount (λ r. r .refusal) (asked s b frameCount)
   unfolding flatCount
   frame-count-told = told flatCount (λ r. r .refusal) (λ k. refl) fileNumbers (search lit≤) (frame-count-numbers s b)
+
+  pub end-mark-told : Told flatMark (λ r. r .refusal) (asked s b endMark)
+  unfolding flatMark
+  end-mark-told = told flatMark (λ r. r .refusal) (λ k. refl) fileNumbers (search lit≤) (end-mark-numbers s b)
 
   pub frame-table-told : (out : List FrameRecord) → Told flatCount (λ r. r .refusal) (answer (asked s b frameTable) out)
   unfolding flatCount

@@ -1,13 +1,14 @@
 // Questions about a GDB trace.
 ghost use mathlib.Core.Path.{_≡_};
-ghost use Rattle.gdb_frames.specs.Questions.{asked, frameCount, frameData, lineAt};
+ghost use Rattle.gdb_frames.specs.Questions.{asked, frameCount, endMark, frameData, lineAt};
 ghost use Rattle.gdb_blocks.specs.Search.{blockAt, registersAt, memoryAt, variableAt};
 ghost use Rattle.gdb_table.specs.Records.{frameTable};
-ghost use Rattle.gdb_flat.specs.Flat.{flatCount, flatPlace, flatLine, flatBlock, flatValue, FlatLent};
+ghost use Rattle.gdb_flat.specs.Flat.{flatCount, flatMark, flatPlace, flatLine, flatBlock, flatValue, FlatLent};
 use gdb_flat::questions;
 use gdb_flat::questions::Block;
 use gdb_flat::questions::Count;
 use gdb_flat::questions::Line;
+use gdb_flat::questions::Mark;
 use gdb_flat::questions::Place;
 use gdb_flat::questions::Value;
 use gdb_format::Settings;
@@ -18,6 +19,13 @@ pub extern "C" fn tfk_frame_count(settings: Settings, file: &[u8]) -> Count
     ensures { λ r. ⌜ r ≡ flatCount (asked settings (now (file .entry)) frameCount) ⌝ }
 {
     questions::flat_count(gdb_frames::frame_count(settings, file))
+}
+
+#[no_mangle]
+pub extern "C" fn tfk_end_mark(settings: Settings, file: &[u8]) -> Mark
+    ensures { λ r. ⌜ r ≡ flatMark (asked settings (now (file .entry)) endMark) ⌝ }
+{
+    questions::flat_mark(gdb_frames::end_mark(settings, file))
 }
 
 // No branch here: a function over a lent list of structs is proved by a walk by hand.

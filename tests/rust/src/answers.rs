@@ -1,6 +1,6 @@
 //! The second reader's answers in the structs of the C interface: on a refusal every other field is 0.
 
-use crate::c::{self, Block, Count, CpuRange, DatSummary, Length, Line, PairPart, Place, Value};
+use crate::c::{self, Block, Count, CpuRange, DatSummary, Length, Line, Mark, PairPart, Place, Value};
 use crate::reader::{Reader, Record};
 use crate::second::dat::{self, Ending, Summary};
 use crate::second::edit::{self, Pair, Selection, TracepointRange, Which};
@@ -26,7 +26,7 @@ macro_rules! answers {
     };
 }
 
-answers! { Count Place Line Block Value Length PairPart DatSummary CpuRange }
+answers! { Count Mark Place Line Block Value Length PairPart DatSummary CpuRange }
 
 fn answer<T, A: Answer>(result: Result<T, Refusal>, told: impl FnOnce(T) -> A) -> A {
     match result {
@@ -38,6 +38,7 @@ fn answer<T, A: Answer>(result: Result<T, Refusal>, told: impl FnOnce(T) -> A) -
 /// The second reader.
 pub const SECOND: Reader = Reader {
     frame_count: |order, file| answer(Trace::read(order, file), |trace| count(trace.frame_count())),
+    end_mark: |order, file| answer(Trace::read(order, file), |trace| mark(trace.is_marked())),
     frame_table: |order, file, records| answer(frame_table(order, file, records), count),
     line_place: |order, file, j| answer(Trace::read(order, file).and_then(|trace| trace.line(j)), line),
     frame_place: |order, file, n| {
@@ -69,6 +70,10 @@ pub const SECOND: Reader = Reader {
 
 fn count(count: usize) -> Count {
     Count { refusal: 0, count }
+}
+
+fn mark(marked: bool) -> Mark {
+    Mark { refusal: 0, marked: marked.into() }
 }
 
 fn length(length: usize) -> Length {

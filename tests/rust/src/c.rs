@@ -1,7 +1,7 @@
 //! The C interface, as `include/tufakpeni.h` declares it.
 
 /// The number of the interface.
-pub const INTERFACE: u64 = 1;
+pub const INTERFACE: u64 = 2;
 
 pub const LINE_OTHER: u8 = 0;
 pub const LINE_R: u8 = 1;
@@ -24,6 +24,13 @@ pub struct Settings {
 pub struct Count {
     pub refusal: u8,
     pub count: usize,
+}
+
+#[derive(Clone, Copy, Debug, Default, PartialEq, Eq)]
+#[repr(C)]
+pub struct Mark {
+    pub refusal: u8,
+    pub marked: u8,
 }
 
 #[derive(Clone, Copy, Debug, Default, PartialEq, Eq)]
@@ -141,6 +148,7 @@ pub struct CpuRange {
 extern "C" {
     pub fn tfk_interface() -> u64;
     pub fn tfk_frame_count(settings: Settings, file: *const u8, file_length: usize) -> Count;
+    pub fn tfk_end_mark(settings: Settings, file: *const u8, file_length: usize) -> Mark;
     pub fn tfk_frame_table(
         settings: Settings,
         file: *const u8,

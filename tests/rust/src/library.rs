@@ -7,6 +7,7 @@ use crate::reader::Reader;
 // promises that nothing else is touched and nothing kept.
 pub const LIBRARY: Reader = Reader {
     frame_count: |order, file| unsafe { c::tfk_frame_count(Settings { order }, file.as_ptr(), file.len()) },
+    end_mark: |order, file| unsafe { c::tfk_end_mark(Settings { order }, file.as_ptr(), file.len()) },
     frame_table: |order, file, out| unsafe {
         c::tfk_frame_table(Settings { order }, file.as_ptr(), file.len(), out.as_mut_ptr().cast(), out.len())
     },

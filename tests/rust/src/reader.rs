@@ -1,6 +1,6 @@
 //! What is compared: every call of the C interface, with slices for pointers.
 
-use crate::c::{Block, Count, CpuRange, DatSummary, Frame, Length, Line, PairPart, Place, Selection, Value};
+use crate::c::{Block, Count, CpuRange, DatSummary, Frame, Length, Line, Mark, PairPart, Place, Selection, Value};
 
 /// A frame record as the words that it fills, so that its padding is compared where it stays unchanged.
 pub type Record = [u64; 3];
@@ -16,6 +16,7 @@ pub fn fields(record: &Record) -> Frame {
 /// A reader of both formats. The first argument of a GDB call is the byte order.
 pub struct Reader {
     pub frame_count: fn(u8, &[u8]) -> Count,
+    pub end_mark: fn(u8, &[u8]) -> Mark,
     pub frame_table: fn(u8, &[u8], &mut [Record]) -> Count,
     pub line_place: fn(u8, &[u8], usize) -> Line,
     pub frame_place: fn(u8, &[u8], usize) -> Place,

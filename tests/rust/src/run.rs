@@ -1,6 +1,6 @@
 //! A run over many made files: its seed and length, its counts, and what it tells of a difference.
 
-use crate::compare::{Comparer, Difference};
+use crate::compare::{Comparer, Difference, Met};
 use std::fmt::Write;
 use std::path::PathBuf;
 use std::{env, fs, process};
@@ -25,18 +25,18 @@ pub fn files() -> usize {
     number("TUFAKPENI_FILES").map_or(FILES, |files| files as usize)
 }
 
-/// How many files were compared by how many calls, and how many of them met each refusal.
+/// How many files were compared by how many calls, and how many of them met what.
 pub struct Tally {
     name: &'static str,
     seed: u64,
     pub files: usize,
     calls: usize,
-    met: [usize; 18],
+    met: [usize; Met::COUNT],
 }
 
 impl Tally {
     pub fn new(name: &'static str, seed: u64) -> Self {
-        Tally { name, seed, files: 0, calls: 0, met: [0; 18] }
+        Tally { name, seed, files: 0, calls: 0, met: [0; Met::COUNT] }
     }
 
     /// Counts a file, or ends the run with all that is needed to see the difference again.
@@ -46,8 +46,8 @@ impl Tally {
         }
         self.files += 1;
         self.calls += std::mem::take(&mut comparer.calls);
-        for number in comparer.take_met() {
-            self.met[number] += 1;
+        for met in comparer.take_met() {
+            self.met[met.index()] += 1;
         }
     }
 
@@ -61,18 +61,19 @@ impl Tally {
         told
     }
 
-    /// Prints the counts, and holds each of these refusals to having been met by so many files.
-    pub fn finish(&self, least: &[(u8, usize)]) {
+    /// Prints the counts, and holds each of these to having been met by so many files.
+    pub fn finish(&self, least: &[(Met, usize)]) {
         println!(
             "{}: seed {}, {} files, {} calls compared, no difference",
             self.name, self.seed, self.files, self.calls
         );
-        let met: Vec<_> =
-            (1..18).filter(|&number| self.met[number] > 0).map(|n| format!("{n}: {}", self.met[n])).collect();
-        println!("{}: files that met each refusal: {}", self.name, met.join(", "));
-        for &(number, least) in least {
-            let met = self.met[usize::from(number)];
-            assert!(met >= least, "{}: refusal {number} was met by {met} files only, not by {least}", self.name);
+        let count = |met: Met| self.met[met.index()];
+        let told: Vec<_> =
+            Met::all().filter(|&met| count(met) > 0).map(|met| format!("{met:?}: {}", count(met))).collect();
+        println!("{}: files that met each: {}", self.name, told.join(", "));
+        for &(met, least) in least {
+            let files = count(met);
+            assert!(files >= least, "{}: {met:?} was met by {files} files only, not by {least}", self.name);
         }
     }
 }

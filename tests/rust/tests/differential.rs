@@ -1,6 +1,6 @@
 //! Every call of the library compared with the second reader's, on made files of every sort.
 
-use tufakpeni_tests::compare::Comparer;
+use tufakpeni_tests::compare::{Comparer, Met};
 use tufakpeni_tests::library::LIBRARY;
 use tufakpeni_tests::make::dat::Dat;
 use tufakpeni_tests::make::gdb::{memory_at, registers, variable, Frame, Trace};
@@ -24,6 +24,14 @@ impl Traces<'_> {
         self.tally.count(&mut self.comparer, trace.made.name, result, &files);
     }
 
+    /// Only as a pair, both ways.
+    fn compare_joins(&mut self, trace: &MadeTrace) {
+        let (order, file, partner) = (trace.order, trace.made.file(), &trace.partner[..]);
+        let result = self.comparer.pair(&mut self.random, order, file, partner);
+        let result = result.and_then(|()| self.comparer.pair(&mut self.random, order, partner, file));
+        self.tally.count(&mut self.comparer, trace.made.name, result, &[file, partner]);
+    }
+
     fn compare_alone(&mut self, order: u8, made: Made, partner: &[u8]) {
         self.compare(&MadeTrace { made, order, partner: partner.to_vec() });
     }
@@ -43,16 +51,18 @@ fn gdb_traces() {
         traces.compare(&trace);
     }
     let often = traces.tally.files / 100;
-    let least: Vec<_> = (2..=13).map(|number| (number, often)).chain([(1, 8)]).collect();
+    let refusals = (2..=13).chain([18]).map(Met::Refusal);
+    let met = refusals.chain([false, true].map(Met::Marked)).chain(Met::joins());
+    let least: Vec<_> = met.map(|met| (met, often)).chain([(Met::Refusal(1), 16)]).collect();
     traces.tally.finish(&least);
 }
 
 /// A trace of two frames with a block of each kind.
-fn small_trace(order: u8) -> Trace {
+fn small_trace(order: u8, marked: bool) -> Trace {
     let random = &mut Random::new(1);
     let blocks = vec![registers(random, 2), memory_at(order, u64::MAX, b"MR"), variable(random, order)];
-    let frames = vec![Frame { tracepoint: 1, blocks, size: None }, Frame::default()];
-    Trace { order, lines: vec![b"R 2".to_vec(), b"status 0".to_vec()], register_size: Some(2), frames }
+    let frames = vec![Frame::of(blocks), Frame::of(Vec::new())];
+    Trace { order, lines: vec![b"R 2".to_vec(), b"status 0".to_vec()], register_size: Some(2), frames, marked }
 }
 
 fn every_front_and_byte_of_traces(traces: &mut Traces) {
@@ -64,10 +74,12 @@ fn every_front_and_byte_of_traces(traces: &mut Traces) {
             traces.compare_alone(order, made, &bytes);
         }
     }
-    for order in [0, 1] {
-        let bytes = small_trace(order).bytes();
+    for (order, marked) in [(0, false), (0, true), (1, false), (1, true)] {
+        let bytes = small_trace(order, marked).bytes();
+        // Joined with its like in one order and with the other marking in the other.
+        let partner = small_trace(order, marked == (order == 0)).bytes();
         for made in damage::every_byte(&bytes) {
-            traces.compare_alone(order, made, &bytes);
+            traces.compare_alone(order, made, &partner);
         }
     }
 }
@@ -77,11 +89,13 @@ fn longest_traces(traces: &mut Traces) {
     for order in [0, 1] {
         let opening = Trace { order, ..Trace::default() }.opening();
         for (beyond, refusal) in [(0, 0), (1, 1)] {
-            let made = Made::new("longest", longest::trace(order, MAX_LENGTH + beyond), Some(refusal));
-            traces.compare_alone(order, made, &opening);
-            let half = longest::trace(order, MAX_LENGTH / 2 + beyond);
-            let other = longest::trace(order, MAX_LENGTH / 2 + opening.len());
-            traces.compare_alone(order, Made::new("longest join", half, Some(0)), &other);
+            for marked in [false, true] {
+                let made = Made::new("longest", longest::trace(order, marked, MAX_LENGTH + beyond), Some(refusal));
+                traces.compare_alone(order, made, &opening);
+            }
+            for joined in longest::joined(order, beyond) {
+                traces.compare_joins(&joined);
+            }
         }
         traces.compare_alone(order, Made::new("many", longest::many(order), Some(0)), &opening);
         let long = longest::filled(opening.clone(), 1);
@@ -113,7 +127,8 @@ fn dat_files() {
         dats.compare(&any_dat(&mut Random::of(seed, index)));
     }
     let often = dats.tally.files / 100;
-    dats.tally.finish(&[(1, 3), (12, often), (14, often), (15, often), (16, often), (17, often)]);
+    let least: Vec<_> = [12, 14, 15, 16, 17].map(|number| (Met::Refusal(number), often)).into();
+    dats.tally.finish(&[&least[..], &[(Met::Refusal(1), 3)]].concat());
 }
 
 fn every_front_and_byte_of_dats(dats: &mut Dats, random: &mut Random) {

@@ -3,7 +3,7 @@
 use tufakpeni_tests::answers::selection as of_c;
 use tufakpeni_tests::c::{Frame, Length, Selection};
 use tufakpeni_tests::library::LIBRARY;
-use tufakpeni_tests::make::gdb::Trace;
+use tufakpeni_tests::make::gdb::{Trace, END_MARK};
 use tufakpeni_tests::make::{selection, Random};
 use tufakpeni_tests::reader::fields;
 use tufakpeni_tests::run::seed;
@@ -12,11 +12,13 @@ const ROUNDS: usize = 50_000;
 /// A frame's number and size.
 const FRAME_HEAD: usize = 6;
 
-/// Three traces of one opening, and two selections.
+/// Three traces of one opening, each marked or not, and two selections.
 struct Round {
     order: u8,
     opening: Vec<u8>,
     traces: [Vec<u8>; 3],
+    /// The first trace's end mark, if any.
+    mark: &'static [u8],
     a: Selection,
     b: Selection,
 }
@@ -26,8 +28,8 @@ impl Round {
         let order = random.below(2) as u8;
         let first = Trace::valid(random, order);
         let traces = [first.bytes(), first.sibling(random).bytes(), first.sibling(random).bytes()];
-        let opening = first.opening();
-        Round { order, opening, traces, a: selection::right(random), b: selection::right(random) }
+        let (opening, mark) = (first.opening(), first.mark());
+        Round { order, opening, traces, mark, a: selection::right(random), b: selection::right(random) }
     }
 
     fn cut(&self, file: &[u8], by: Selection) -> Vec<u8> {
@@ -62,6 +64,7 @@ impl Round {
                 both.extend_from_slice(bytes);
             }
         }
+        both.extend_from_slice(self.mark);
         assert_eq!(self.cut(&self.cut(file, self.a), self.b), both);
         assert_eq!(self.cut(&self.cut(file, self.b), self.a), both);
     }
@@ -79,6 +82,15 @@ impl Round {
         assert_eq!(self.join(file, &self.opening), *file);
     }
 
+    /// The bare opening with the mark is none: a trace without the mark gets it.
+    fn the_bare_marked_opening_marks(&self) {
+        let file = &self.traces[0];
+        let bare = [&self.opening, END_MARK].concat();
+        let marked = [&file[..file.len() - self.mark.len()], END_MARK].concat();
+        assert_eq!(self.join(&bare, file), marked);
+        assert_eq!(self.join(file, &bare), marked);
+    }
+
     /// Each frame stands in exactly one of the two cuts, at the place that the frames before it settle.
     fn a_selection_and_its_opposite_part_the_frames(&self) {
         let file = &self.traces[0];
@@ -92,7 +104,7 @@ impl Round {
             before[side] += 1;
         }
         assert_eq!(before, [parted[0].len(), parted[1].len()]);
-        assert_eq!(cuts[0].len() + cuts[1].len(), file.len() + self.opening.len());
+        assert_eq!(cuts[0].len() + cuts[1].len(), file.len() + self.opening.len() + self.mark.len());
     }
 }
 
@@ -111,11 +123,12 @@ fn selects(selection: &Selection, tracepoint: u16) -> bool {
 
 #[test]
 fn the_laws_hold() {
-    let laws: [fn(&Round); 5] = [
+    let laws: [fn(&Round); 6] = [
         Round::a_join_is_cut_as_its_parts_are,
         Round::cuts_commute,
         Round::joining_is_associative,
         Round::the_bare_opening_is_a_unit,
+        Round::the_bare_marked_opening_marks,
         Round::a_selection_and_its_opposite_part_the_frames,
     ];
     let seed = seed();

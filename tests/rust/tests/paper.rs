@@ -1,14 +1,16 @@
-//! Document 01's own cases, "Both sides of each edge", and those of docs/DECISIONS.md, "How the papers are read", with values written out here.
+//! Document 01's own cases, "Both sides of each edge", those of request C-11, and those of docs/DECISIONS.md, "How the
+//! papers are read", with values written out here.
 //! The second reader is held to them first, then the library.
 
 use tufakpeni_tests::answers::SECOND;
 use tufakpeni_tests::c::{
-    Block, Count, CpuRange, Frame, Length, Line, PairPart, Part, Place, Range, Selection, Value, ENDING_FLYRECORD,
-    ENDING_LATENCY, LINE_OTHER, LINE_R, LINE_STATUS, LINE_TDESC, LINE_TP, LINE_TSV,
+    Block, Count, CpuRange, Frame, Length, Line, Mark, PairPart, Part, Place, Range, Selection, Value,
+    ENDING_FLYRECORD, ENDING_LATENCY, LINE_OTHER, LINE_R, LINE_STATUS, LINE_TDESC, LINE_TP, LINE_TSV,
 };
 use tufakpeni_tests::library::LIBRARY;
 use tufakpeni_tests::make::longest;
 use tufakpeni_tests::reader::{fields, Reader};
+use tufakpeni_tests::second::MAX_LENGTH;
 
 const LITTLE: u8 = 0;
 const BIG: u8 = 1;
@@ -108,7 +110,7 @@ fn memory_and_variables(reader: &Reader) {
 fn lines(reader: &Reader) {
     for (good, size) in [("R 65535", 65_535), ("R 00776", 776), ("R 0", 0)] {
         let mut file = trace(good.as_bytes());
-        file.extend_from_slice(b"\n\n\0\0");
+        file.extend_from_slice(b"\n\n\x01\0");
         file.extend_from_slice(&(1 + size as u32).to_le_bytes());
         file.push(b'R');
         file.resize(file.len() + size, b'M');
@@ -126,7 +128,7 @@ fn lines(reader: &Reader) {
     }
     assert_eq!((reader.line_place)(LITTLE, &file, 1), Line { refusal: 0, kind: LINE_OTHER, place: 12, length: 2 });
     assert_eq!((reader.line_place)(LITTLE, &file, 9).refusal, 12);
-    assert_eq!(refusal(reader, b"R8\n\n\0\0\x01\0\0\0R"), 10);
+    assert_eq!(refusal(reader, b"R8\n\n\x01\0\x01\0\0\0R"), 10);
 }
 
 fn edits(reader: &Reader) {
@@ -153,6 +155,99 @@ fn edits(reader: &Reader) {
     assert_eq!((reader.pair_place)(LITTLE, &file, &file, 4), of_second);
     assert_eq!((reader.pair_variable)(LITTLE, &file, &file, 4, 7), Value { refusal: 0, value: 42 });
     assert_eq!((reader.pair_place)(LITTLE, &file, &file, 6).refusal, 12);
+}
+
+/// Every question goes by the same reading, so one call's refusal is the file's.
+fn end_marks(reader: &Reader) {
+    let fronts: [(&[u8], usize); 4] = [
+        (b"\n", 0),
+        (b"\n\x01\0\0\0\0\0", 1),
+        (b"\n\x01\0\x0B\0\0\0M\0\0\0\0\0\0\0\0\0\0", 1),
+        (b"\n\x01\x01\0\0\0\0\0\x01\0\0\0\0", 2),
+    ];
+    let bad: [&[u8]; 8] = [
+        b"\0\0",
+        b"\0\0\0",
+        b"\0\0\x01\0",
+        b"\0\0\0\x01",
+        b"\0\0\0\0\0",
+        b"\0\0\0\0\0\0",
+        b"\0\0\0\0\x01\0\0\0\0\0",
+        b"\0\0\xFF\xFF\xFF\xFF",
+    ];
+    for (front, frames) in fronts {
+        for (tail, marked) in [(&b""[..], 0), (b"\0\0\0\0", 1)] {
+            let file = trace(&[front, tail].concat());
+            assert_eq!((reader.frame_count)(LITTLE, &file), Count { refusal: 0, count: frames }, "{file:?}");
+            assert_eq!((reader.end_mark)(LITTLE, &file), Mark { refusal: 0, marked }, "{file:?}");
+        }
+        let cut_short: [&[u8]; 4] = [b"\0", b"\0\x01", b"\0\x01\0\0", b"\x01\0\0\0"];
+        for (tails, refusal) in [(&cut_short[..], 6), (&bad, 18)] {
+            for tail in tails {
+                let file = trace(&[front, tail].concat());
+                assert_eq!((reader.end_mark)(LITTLE, &file), Mark { refusal, marked: 0 }, "{file:?}");
+            }
+        }
+    }
+    numbers_with_a_zero_byte(reader);
+}
+
+/// 256 in either order is a frame's number; so is 1, and 0 is none.
+fn numbers_with_a_zero_byte(reader: &Reader) {
+    for (order, head, tracepoint) in [
+        (LITTLE, b"\n\0\x01\0\0\0\0", 256),
+        (BIG, b"\n\x01\0\0\0\0\0", 256),
+        (LITTLE, b"\n\x01\0\0\0\0\0", 1),
+        (BIG, b"\n\0\x01\0\0\0\0", 1),
+    ] {
+        for (mark, marked) in [(&b""[..], 0), (b"\0\0\0\0", 1)] {
+            let file = trace(&[head, mark].concat());
+            let mut table = [[0; 3]];
+            assert_eq!((reader.frame_table)(order, &file, &mut table), Count { refusal: 0, count: 1 });
+            assert_eq!(fields(&table[0]), Frame { tracepoint, place: 15, size: 0 });
+            assert_eq!((reader.end_mark)(order, &file), Mark { refusal: 0, marked });
+        }
+    }
+    for order in [LITTLE, BIG] {
+        assert_eq!((reader.frame_count)(order, &trace(b"\n\0\0\0\0\0\0")).refusal, 18);
+    }
+}
+
+/// A cut keeps the mark, and 0 may be named; a join has one mark at the end where either trace has one.
+fn marked_edits(reader: &Reader) {
+    let [frame, mark] = [&b"\x01\0\x0D\0\0\0V\x07\0\0\0\x2A\0\0\0\0\0\0\0"[..], b"\0\0\0\0"];
+    let of = |parts: &[&[u8]]| [H, b"\n", &parts.concat()].concat();
+    let keeping = |low, high| Selection { ranges: [Range { low, high }; 8], count: 1, keep: 1 };
+    for (selection, kept) in [(keeping(1, 1), frame), (keeping(0, 0), b""), (keeping(0, 1), frame)] {
+        let cut = of(&[kept, mark]);
+        edited(&cut, |out| (reader.cut)(LITTLE, &of(&[frame, mark]), selection, out));
+    }
+    for (first, second) in [(&b""[..], &b""[..]), (b"", mark), (mark, b""), (mark, mark)] {
+        let [one, other] = [of(&[frame, first]), of(&[frame, second])];
+        let end = if first.is_empty() { second } else { first };
+        edited(&of(&[frame, frame, end]), |out| (reader.join)(LITTLE, &one, &other, out));
+        let of_second = PairPart { refusal: 0, trace: 1, place: 15, length: 13 };
+        assert_eq!((reader.pair_place)(LITTLE, &one, &other, 1), of_second);
+        assert_eq!((reader.pair_variable)(LITTLE, &one, &other, 1, 7), Value { refusal: 0, value: 42 });
+        assert_eq!((reader.pair_place)(LITTLE, &one, &other, 2).refusal, 12);
+    }
+    for bad in [&b"\0\0"[..], b"\0\0\0\0\0", b"\0\0\x01\0"] {
+        let [good, bad] = [of(&[frame, mark]), of(&[frame, bad])];
+        assert_eq!((reader.join)(LITTLE, &bad, &good, &mut [0; 99]).refusal, 18);
+        assert_eq!((reader.pair_place)(LITTLE, &good, &bad, 0).refusal, 18);
+    }
+}
+
+/// Holds a cut or join to its result in an output with room to spare, one that it fills, and one a byte too short.
+fn edited(result: &[u8], edit: impl Fn(&mut [u8]) -> Length) {
+    for spare in [3, 0] {
+        let mut out = vec![0xEE; result.len() + spare];
+        assert_eq!(edit(&mut out), Length { refusal: 0, length: result.len() });
+        assert_eq!(out, [result, &vec![0xEE; spare]].concat());
+    }
+    let mut out = vec![0xEE; result.len() - 1];
+    assert_eq!(edit(&mut out), Length { refusal: 11, length: 0 });
+    assert_eq!(out, vec![0xEE; result.len() - 1]);
 }
 
 fn dat_headers(reader: &Reader) {
@@ -209,6 +304,10 @@ fn longest_files(reader: &Reader) {
     assert_eq!((reader.frame_count)(LITTLE, &long).refusal, 1);
     assert_eq!((reader.frame_count)(LITTLE, &long[1..]).refusal, 3);
     assert_eq!((reader.frame_count)(2, &long).refusal, 2);
+    for (length, refusal) in [(MAX_LENGTH, 0), (MAX_LENGTH + 1, 1)] {
+        let marked = u8::from(refusal == 0);
+        assert_eq!((reader.end_mark)(LITTLE, &longest::trace(LITTLE, true, length)), Mark { refusal, marked });
+    }
 }
 
 fn all(reader: &Reader) {
@@ -217,6 +316,8 @@ fn all(reader: &Reader) {
     memory_and_variables(reader);
     lines(reader);
     edits(reader);
+    end_marks(reader);
+    marked_edits(reader);
     dat_headers(reader);
     dat_ranges(reader);
     longest_files(reader);

@@ -1,13 +1,15 @@
 //! That the comparison can fail: readers with one slip each are told from the second reader by the made files.
 
 use tufakpeni_tests::answers::{summary, Answer, SECOND};
-use tufakpeni_tests::c::{Block, Count, DatSummary, Length, PairPart, Part, Place, Selection, Value};
+use tufakpeni_tests::c::{Block, Count, DatSummary, Length, Mark, PairPart, Part, Place, Selection, Value};
 use tufakpeni_tests::compare::Comparer;
-use tufakpeni_tests::make::{any_dat, any_trace, Random};
+use tufakpeni_tests::make::gdb::END_MARK;
+use tufakpeni_tests::make::{any_dat, any_trace, longest, Random};
 use tufakpeni_tests::reader::{Reader, Record};
 use tufakpeni_tests::run::seed;
 use tufakpeni_tests::second::dat::{self, CpuRange};
-use tufakpeni_tests::second::Refusal;
+use tufakpeni_tests::second::gdb::Trace;
+use tufakpeni_tests::second::{Refusal, MAX_LENGTH};
 
 /// By how many made files a slip has to be seen at the latest: far fewer than the gate compares.
 const FILES: usize = 5_000;
@@ -18,6 +20,14 @@ fn seen_on_traces(reader: &Reader) -> bool {
         let random = &mut Random::of(seed(), index);
         let trace = any_trace(random);
         comparer.made_trace(random, &trace).is_err()
+    })
+}
+
+fn seen_on_longest_pairs(reader: &Reader) -> bool {
+    let mut comparer = Comparer::new(reader);
+    [1, 0].into_iter().flat_map(|beyond| longest::joined(0, beyond)).any(|pair| {
+        let random = &mut Random::new(seed());
+        comparer.pair(random, pair.order, pair.made.file(), &pair.partner).is_err()
     })
 }
 
@@ -50,6 +60,36 @@ const QUESTION_SLIPS: [Slip; 13] = [
     ("a record too many", Reader { frame_table: record_too_many, ..SECOND }),
 ];
 
+const MARK_SLIPS: [Slip; 9] = [
+    ("a mark of any four bytes", Reader { frame_count: any_four_bytes, ..SECOND }),
+    ("bytes behind the mark let through", Reader { frame_count: bytes_behind, ..SECOND }),
+    ("6 for a mark cut short", Reader { frame_count: short_mark_as_head, ..SECOND }),
+    ("a frame of number 0 read", Reader { frame_count: number_zero_read, ..SECOND }),
+    ("7 ahead of 18", Reader { frame_count: size_ahead_of_mark, ..SECOND }),
+    ("a number's first byte alone taken for the mark", Reader { frame_count: first_byte_alone, ..SECOND }),
+    ("the mark counted as a frame", Reader { frame_count: mark_as_frame, ..SECOND }),
+    ("the mark by the last four bytes", Reader { end_mark: last_four_bytes, ..SECOND }),
+    ("the mark of a refused file", Reader { end_mark: mark_of_refused, ..SECOND }),
+];
+
+const MARKED_EDIT_SLIPS: [Slip; 9] = [
+    ("a cut without the mark", Reader { cut: cut_without_mark, ..SECOND }),
+    ("a cut to nothing without the mark", Reader { cut: empty_cut_without_mark, ..SECOND }),
+    ("a cut written, then no room for the mark", Reader { cut: cut_before_mark, ..SECOND }),
+    ("the first trace's mark only", Reader { join: first_mark_only, ..SECOND }),
+    ("the second trace's mark only", Reader { join: second_mark_only, ..SECOND }),
+    ("two marks", Reader { join: two_marks, ..SECOND }),
+    ("the mark between the runs", Reader { join: mark_between, ..SECOND }),
+    ("the mark counted twice", Reader { join: mark_twice, ..SECOND }),
+    ("a join written, then no room for the mark", Reader { join: join_before_mark, ..SECOND }),
+];
+
+const LONGEST_SLIPS: [Slip; 3] = [
+    ("the mark not in a join's length", Reader { join: mark_past_limit, ..SECOND }),
+    ("the mark not in a pair's length", Reader { pair_place: pair_without_mark, ..SECOND }),
+    ("the mark twice in a pair's length", Reader { pair_place: pair_mark_twice, ..SECOND }),
+];
+
 const EDIT_SLIPS: [Slip; 9] = [
     ("frames written, then no room", Reader { cut: frames_first, ..SECOND }),
     ("a byte too many", Reader { cut: byte_too_many, ..SECOND }),
@@ -75,8 +115,11 @@ const DAT_SLIPS: [Slip; 8] = [
 
 #[test]
 fn slips_are_seen() {
-    for (name, slip) in QUESTION_SLIPS.iter().chain(&EDIT_SLIPS) {
+    for (name, slip) in QUESTION_SLIPS.iter().chain(&MARK_SLIPS).chain(&EDIT_SLIPS).chain(&MARKED_EDIT_SLIPS) {
         assert!(seen_on_traces(slip), "not seen: {name}");
+    }
+    for (name, slip) in &LONGEST_SLIPS {
+        assert!(seen_on_longest_pairs(slip), "not seen: {name}");
     }
     for (name, slip) in &DAT_SLIPS {
         assert!(seen_on_dats(slip), "not seen: {name}");
@@ -133,6 +176,77 @@ fn end_first(order: u8, file: &[u8]) -> Count {
 fn short_first(order: u8, file: &[u8]) -> Count {
     let right = (SECOND.frame_count)(order, file);
     swapped(right, Refusal::NoRegisterSize, Refusal::BlockPastData, file.ends_with(b"R"))
+}
+
+/// What stands from a bad end mark on, where that refuses the file, and the number of frames before it.
+fn bad_mark(order: u8, file: &[u8]) -> Option<(usize, &[u8])> {
+    if (SECOND.frame_count)(order, file).refusal != Refusal::BadMark as u8 {
+        return None;
+    }
+    let unmarked = |end: &usize| (SECOND.end_mark)(order, &file[..*end]) == Mark { refusal: 0, marked: 0 };
+    let place = (0..file.len()).rev().find(unmarked)?;
+    Some(((SECOND.frame_count)(order, &file[..place]).count, &file[place..]))
+}
+
+/// The count of the frames before a bad mark that is let through, where it is of this sort.
+fn let_through(order: u8, file: &[u8], sort: fn(&[u8]) -> bool) -> Count {
+    match bad_mark(order, file) {
+        Some((count, mark)) if sort(mark) => Count { refusal: 0, count },
+        _ => (SECOND.frame_count)(order, file),
+    }
+}
+
+fn any_four_bytes(order: u8, file: &[u8]) -> Count {
+    let_through(order, file, |mark| mark.len() == END_MARK.len())
+}
+
+fn bytes_behind(order: u8, file: &[u8]) -> Count {
+    let_through(order, file, |mark| mark.starts_with(END_MARK))
+}
+
+fn short_mark_as_head(order: u8, file: &[u8]) -> Count {
+    let short = bad_mark(order, file).is_some_and(|(_, mark)| mark.len() < END_MARK.len());
+    swapped((SECOND.frame_count)(order, file), Refusal::BadMark, Refusal::ShortHead, short)
+}
+
+/// The count of the file with each number 0 made another.
+fn number_zero_read(order: u8, file: &[u8]) -> Count {
+    let mut read = file.to_vec();
+    while let Some((_, mark)) = bad_mark(order, &read).filter(|(_, mark)| mark.len() >= 6) {
+        let place = read.len() - mark.len();
+        read[place] = 1;
+    }
+    (SECOND.frame_count)(order, &read)
+}
+
+fn size_ahead_of_mark(order: u8, file: &[u8]) -> Count {
+    let past = number_zero_read(order, file).refusal == Refusal::DataPastFile as u8;
+    swapped((SECOND.frame_count)(order, file), Refusal::BadMark, Refusal::DataPastFile, past)
+}
+
+fn first_byte_alone(order: u8, file: &[u8]) -> Count {
+    let right = (SECOND.frame_count)(order, file);
+    let begins = |n| file[(SECOND.frame_place)(order, file, n).place - 6] == 0;
+    if (0..right.count).any(begins) {
+        return Count::refused(Refusal::BadMark as u8);
+    }
+    right
+}
+
+fn mark_as_frame(order: u8, file: &[u8]) -> Count {
+    let right = (SECOND.frame_count)(order, file);
+    Count { count: right.count + usize::from(is_marked(order, file)), ..right }
+}
+
+fn last_four_bytes(order: u8, file: &[u8]) -> Mark {
+    let right = (SECOND.end_mark)(order, file);
+    instead(right, || Some(Mark { marked: file.ends_with(END_MARK).into(), ..right }))
+}
+
+fn mark_of_refused(order: u8, file: &[u8]) -> Mark {
+    let right = (SECOND.end_mark)(order, file);
+    let marked = if right.refusal == 0 { right.marked } else { file.ends_with(END_MARK).into() };
+    Mark { marked, ..right }
 }
 
 fn wrong_first(file: &[u8]) -> DatSummary {
@@ -268,6 +382,106 @@ fn border_off(order: u8, first: &[u8], second: &[u8], n: usize) -> PairPart {
 fn first_only(order: u8, first: &[u8], second: &[u8], n: usize, number: u32) -> Value {
     let right = (SECOND.pair_variable)(order, first, second, n, number);
     instead(right, || Some((SECOND.variable)(order, first, n, number)))
+}
+
+fn is_marked(order: u8, file: &[u8]) -> bool {
+    (SECOND.end_mark)(order, file).marked == 1
+}
+
+/// A file without its end mark, if it has one.
+fn unmarked(order: u8, file: &[u8]) -> &[u8] {
+    &file[..file.len() - if is_marked(order, file) { END_MARK.len() } else { 0 }]
+}
+
+fn cut_without_mark(order: u8, file: &[u8], selection: Selection, out: &mut [u8]) -> Length {
+    (SECOND.cut)(order, unmarked(order, file), selection, out)
+}
+
+/// Only where there are frames, and none is selected.
+fn empty_cut_without_mark(order: u8, file: &[u8], selection: Selection, out: &mut [u8]) -> Length {
+    let mut whole = vec![0; file.len()];
+    let Length { length, .. } = (SECOND.cut)(order, file, selection, &mut whole);
+    let none = (SECOND.frame_count)(order, &whole[..length]) == Count { refusal: 0, count: 0 };
+    if none && (SECOND.frame_count)(order, file).count > 0 {
+        return cut_without_mark(order, file, selection, out);
+    }
+    (SECOND.cut)(order, file, selection, out)
+}
+
+fn cut_before_mark(order: u8, file: &[u8], selection: Selection, out: &mut [u8]) -> Length {
+    cut_without_mark(order, file, selection, out);
+    (SECOND.cut)(order, file, selection, out)
+}
+
+fn first_mark_only(order: u8, first: &[u8], second: &[u8], out: &mut [u8]) -> Length {
+    (SECOND.join)(order, first, unmarked(order, second), out)
+}
+
+fn second_mark_only(order: u8, first: &[u8], second: &[u8], out: &mut [u8]) -> Length {
+    (SECOND.join)(order, unmarked(order, first), second, out)
+}
+
+/// Whether both traces are marked.
+fn both_marked(order: u8, first: &[u8], second: &[u8]) -> bool {
+    is_marked(order, first) && is_marked(order, second)
+}
+
+/// Two marks at the end where both traces have one, and there is room for them.
+fn two_marks(order: u8, first: &[u8], second: &[u8], out: &mut [u8]) -> Length {
+    let right = (SECOND.join)(order, first, second, out);
+    instead(right, || {
+        let length = right.length + END_MARK.len();
+        let room = out.get_mut(right.length..length).filter(|_| both_marked(order, first, second))?;
+        room.copy_from_slice(END_MARK);
+        Some(Length { length, ..right })
+    })
+}
+
+/// The mark behind the frames of the first trace.
+fn mark_between(order: u8, first: &[u8], second: &[u8], out: &mut [u8]) -> Length {
+    let right = (SECOND.join)(order, first, second, out);
+    if right.refusal == 0 && is_marked(order, &out[..right.length]) {
+        let border = unmarked(order, first).len();
+        out[border..right.length].rotate_right(END_MARK.len());
+    }
+    right
+}
+
+/// No room where the mark of each trace would not fit.
+fn mark_twice(order: u8, first: &[u8], second: &[u8], out: &mut [u8]) -> Length {
+    let room = out.len();
+    let right = (SECOND.join)(order, first, second, &mut out.to_vec());
+    if both_marked(order, first, second) && right.length + END_MARK.len() > room {
+        return Length::refused(right.refusal.max(Refusal::NoRoom as u8));
+    }
+    (SECOND.join)(order, first, second, out)
+}
+
+fn join_before_mark(order: u8, first: &[u8], second: &[u8], out: &mut [u8]) -> Length {
+    (SECOND.join)(order, unmarked(order, first), unmarked(order, second), out);
+    (SECOND.join)(order, first, second, out)
+}
+
+/// The join without the mark where only the mark takes it past the limit.
+fn mark_past_limit(order: u8, first: &[u8], second: &[u8], out: &mut [u8]) -> Length {
+    let right = (SECOND.join)(order, first, second, out);
+    if right.refusal != Refusal::TooLong as u8 {
+        return right;
+    }
+    (SECOND.join)(order, unmarked(order, first), unmarked(order, second), out)
+}
+
+fn pair_without_mark(order: u8, first: &[u8], second: &[u8], n: usize) -> PairPart {
+    (SECOND.pair_place)(order, unmarked(order, first), unmarked(order, second), n)
+}
+
+/// Too long where two traces are so with the mark of each.
+fn pair_mark_twice(order: u8, first: &[u8], second: &[u8], n: usize) -> PairPart {
+    let opening = Trace::read(order, second).map_or(0, |trace| trace.opening().len());
+    if both_marked(order, first, second) && first.len() + second.len() - opening > MAX_LENGTH {
+        return PairPart::refused(Refusal::TooLong as u8);
+    }
+    (SECOND.pair_place)(order, first, second, n)
 }
 
 /// What a file's CPU ranges are judged by.

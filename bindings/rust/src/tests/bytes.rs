@@ -3,6 +3,8 @@ use crate::Order;
 
 pub const ORDERS: [Order; 2] = [Order::Little, Order::Big];
 
+pub const MARK: [u8; 4] = [0; 4];
+
 /// The low `width` bytes of a number.
 pub fn number(order: Order, width: usize, n: u64) -> Vec<u8> {
     match order {
@@ -37,6 +39,12 @@ pub fn opening(description: &str) -> Vec<u8> {
 
 pub fn trace(description: &str, frames: &[Vec<u8>]) -> Vec<u8> {
     [opening(description), frames.concat()].concat()
+}
+
+/// A file with the end mark behind it, or as it is.
+pub fn marked(file: &[u8], mark: bool) -> Vec<u8> {
+    let end: &[u8] = if mark { &MARK } else { &[] };
+    [file, end].concat()
 }
 
 /// Whether a part is that part of the file itself, and no copy of it.

@@ -1,5 +1,5 @@
 //! Cuts, joins and pairs.
-use super::bytes::{frame, opening, stands_at, trace, variable, ORDERS};
+use super::bytes::{frame, marked, opening, stands_at, trace, variable, MARK, ORDERS};
 use crate::{cut, cut_to_vec, join, join_to_vec, Order, Pair, Refusal, Selection, Side, Trace, LONGEST};
 
 /// Frames of these tracepoint numbers, each with the variable 1 that says which frame it is.
@@ -77,6 +77,38 @@ fn a_join_holds_both_runs_of_frames() {
 }
 
 #[test]
+fn a_cut_keeps_the_end_mark() {
+    for order in ORDERS {
+        let file = marked(&numbered(order, &[1, 2]), true);
+        let kept = |selection| cut_to_vec(order, &file, &selection).unwrap();
+        let (one, other) = (kept(Selection::keep([2..=2])), kept(Selection::drop([2..=2])));
+        assert!(Trace::open(order, &one).unwrap().is_marked());
+        assert_eq!(kept(Selection::keep([])), marked(&opening("tp x\n"), true));
+        assert_eq!(kept(Selection::keep([0..=0])), marked(&opening("tp x\n"), true));
+        assert_eq!(kept(Selection::keep([0..=65535])), file);
+        assert_eq!(one.len() + other.len(), file.len() + opening("tp x\n").len() + MARK.len());
+    }
+}
+
+#[test]
+fn a_join_has_one_end_mark() {
+    for order in ORDERS {
+        let (first, second) = (numbered(order, &[1, 2]), numbered(order, &[3]));
+        let both = join_to_vec(order, &first, &second).unwrap();
+        for marks in [[false, false], [false, true], [true, false], [true, true]] {
+            let (first, second) = (marked(&first, marks[0]), marked(&second, marks[1]));
+            let expected = marked(&both, marks[0] || marks[1]);
+            let mut out = vec![0xEE; expected.len()];
+            assert_eq!(join(order, &first, &second, &mut out[1..]), Err(Refusal::NoRoom));
+            assert_eq!(join(order, &first, &second, &mut out), Ok(expected.len()));
+            assert_eq!(out, expected);
+            let pair = Pair { order, first: &first, second: &second };
+            assert_eq!((pair.frame(2).unwrap().side, pair.frame(3)), (Side::Second, Err(Refusal::NotFound)));
+        }
+    }
+}
+
+#[test]
 fn joins_are_refused_in_order() {
     for order in ORDERS {
         let sound = numbered(order, &[1]);
@@ -97,6 +129,11 @@ fn a_join_longer_than_the_limit() {
     let first = with_frames(most - 5);
     assert_eq!(join_to_vec(order, &first, &with_frames(5)).unwrap().len(), bare.len() + most * empty.len());
     assert_eq!(join_to_vec(order, &first, &with_frames(6)), Err(Refusal::TooLong));
+    // One byte is left, so that the mark is too much; with a frame less there is room for one mark, and not for two.
+    let (first, second) = (marked(&first, true), with_frames(5));
+    assert_eq!(join_to_vec(order, &first, &second), Err(Refusal::TooLong));
+    assert_eq!(Pair { order, first: &first, second: &second }.frame(0), Err(Refusal::TooLong));
+    assert_eq!(join_to_vec(order, &first, &marked(&with_frames(4), true)).unwrap().len(), LONGEST - 3);
 }
 
 #[test]

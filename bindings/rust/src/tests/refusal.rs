@@ -1,15 +1,28 @@
-//! The refusals against document 01's own table.
+//! The refusals against document 01's own table and what document 02 adds to it.
 use crate::Refusal;
 
 const PAPER: &str = include_str!("../../../../docs/papers/01-scope.md");
+const REQUESTS: &str = include_str!("../../../../docs/papers/02-change-requests.md");
 
-/// The rows of the table: number and sentence.
+/// The requests that have landed and add a refusal, each in a line of its own that says `Refusals: number, sentence, …`.
+const LANDED: [&str; 1] = ["**C-11."];
+
+/// What a request adds: number and sentence.
+fn added(request: &str) -> (u8, &'static str) {
+    let line = REQUESTS.lines().find(|line| line.starts_with(request)).expect(request);
+    let (_, refusals) = line.split_once("Refusals: ").expect(request);
+    let (number, rest) = refusals.split_once(", ").expect(request);
+    let (sentence, _) = rest.split_once(',').expect(request);
+    (number.parse().expect(request), sentence)
+}
+
+/// The rows of the table, and then those that are added: number and sentence.
 fn rows() -> Vec<(u8, &'static str)> {
     let cells = |line: &'static str| -> Option<(u8, &'static str)> {
         let (number, sentence) = line.strip_prefix("| ")?.strip_suffix(" |")?.split_once(" | ")?;
         Some((number.parse().ok()?, sentence))
     };
-    PAPER.lines().filter_map(cells).collect()
+    PAPER.lines().filter_map(cells).chain(LANDED.map(added)).collect()
 }
 
 #[test]
@@ -24,7 +37,7 @@ fn a_number_has_its_refusal() {
         assert_eq!(Refusal::of_number(refusal.number()), Some(refusal));
     }
     assert_eq!(Refusal::of_number(0), None);
-    assert_eq!(Refusal::of_number(18), None);
+    assert_eq!(Refusal::of_number(19), None);
 }
 
 #[test]

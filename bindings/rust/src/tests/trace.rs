@@ -1,5 +1,5 @@
 //! Traces, their lines, frames and blocks.
-use super::bytes::{frame, memory, opening, registers, stands_at, trace, variable, ORDERS};
+use super::bytes::{frame, marked, memory, opening, registers, stands_at, trace, variable, ORDERS};
 use crate::{raw, Block, Content, LineKind, Order, Refusal, Trace, LONGEST};
 
 const BOARD: &[u8] = include_bytes!("../../../../samples/board.tf");
@@ -49,11 +49,61 @@ fn faulty_blocks() {
 }
 
 #[test]
+fn the_end_mark() {
+    for order in ORDERS {
+        for frames in [vec![], vec![frame(order, 1, &[])], vec![frame(order, 256, &[variable(order, 1, 0)])]] {
+            let file = trace("tp x\nR 2\n", &frames);
+            for mark in [false, true] {
+                let ended = marked(&file, mark);
+                let trace = Trace::open(order, &ended).unwrap();
+                assert_eq!((trace.is_marked(), trace.frame_count()), (mark, frames.len()));
+                assert_eq!(trace.opening(), opening("tp x\nR 2\n"));
+                assert_eq!(trace.lines().map(|line| line.bytes).collect::<Vec<_>>(), [&b"tp x"[..], b"R 2"]);
+                assert_eq!(trace.line(2), Err(Refusal::NotFound));
+                assert!(trace.frames().all(|frame| frame.place() + frame.data().len() == file.len()));
+            }
+        }
+    }
+}
+
+#[test]
+fn bad_end_marks() {
+    for order in ORDERS {
+        let refused = |end: &[u8]| refusal(order, &[&trace("", &[frame(order, 1, &[])]), end].concat());
+        assert_eq!(refused(b"\0"), Some(Refusal::ShortHead));
+        assert_eq!(refused(b"\0\0\0\0"), None);
+        for end in [&b"\0\0"[..], b"\0\0\0", b"\0\0\0\0\0", b"\0\0\x01\0", b"\0\0\0\0\0\0", b"\0\0\0\0\x01\x01\0\0\0\0"]
+        {
+            assert_eq!(refused(end), Some(Refusal::BadMark), "{end:?}");
+        }
+    }
+}
+
+/// What is asked in a small trace of one frame has the mark neither in its bytes nor in its blocks.
+#[test]
+fn the_last_frame_of_a_marked_trace() {
+    for order in ORDERS {
+        let blocks = [registers(b"ab"), variable(order, 1, 0), memory(order, 16, &[0; 4])];
+        let file = marked(&trace("R 2\n", &[frame(order, 1, &[]), frame(order, 2, &blocks)]), true);
+        let trace = Trace::open(order, &file).unwrap();
+        let last = trace.frames().next_back().unwrap();
+        assert_eq!(last.data(), blocks.concat());
+        assert_eq!(last.blocks().count(), 3);
+        assert_eq!(last.blocks().last().unwrap().content, Content::Memory { address: 16, bytes: &[0; 4] });
+        assert_eq!(last.registers(), Ok(&b"ab"[..]));
+        assert_eq!(last.memory(18), Ok(&[0; 2][..]));
+        assert_eq!(last.memory(20), Err(Refusal::NotFound));
+        assert_eq!(last.variable(1), Ok(0));
+        assert!(stands_at(&file, file.len() - 6, last.memory(18).unwrap()));
+    }
+}
+
+#[test]
 fn a_file_longer_than_the_limit() {
     let mut file = opening("");
     file.resize(LONGEST + 1, 0);
     assert_eq!(refusal(Order::Little, &file), Some(Refusal::TooLong));
-    assert_eq!(refusal(Order::Little, &file[..LONGEST]), Some(Refusal::ShortHead));
+    assert_eq!(refusal(Order::Little, &file[..LONGEST]), Some(Refusal::BadMark));
 }
 
 #[test]

@@ -1,9 +1,10 @@
 -- `gdb_cut::cut` meets its contract: each way out is one of the three outcomes.
 -- Assumes nothing.
-use mathlib.Core.Path.{_≡_, sym, _∙_}
+use mathlib.Core.Path.{_≡_, sym, ap, _∙_}
 use mathlib.Core.Bool.{true}
-use mathlib.Core.List.{List}
-use lib.ListN.{length, take}
+use mathlib.Core.List.{List, _++_}
+use lib.ListN.{length, take, drop, length-append, length-drop}
+use lib.Seq.{take-all}
 use Rattle.fields.specs.Given.{at-case}
 use borrow.Author.Tests.{not-true, not-false, leb-true, leb-false}
 use Rattle.refusals.specs.Refusal.{badArgument}
@@ -14,8 +15,9 @@ use Rattle.gdb_select.specs.Selection.{valid}
 use Rattle.gdb_cut.specs.Cut.{cutOf}
 use Rattle.gdb_cut.specs.Kept.{cutResult, cutLength}
 use Rattle.fields.specs.Output.{lent-written, lent-full, lent-refused}
-use Rattle.gdb_cut.proofs.Cuts.{cut-invalid, cut-refused, heads-there, start-there, cut-gives, result-length}
-use Prim.Native.Nat.{ℕ, _≤_}
+use Rattle.gdb_cut.proofs.Cuts.{cut-invalid, cut-refused, heads-there, start-there, end-there, cut-gives, result-length}
+use Rattle.fields.specs.Copies.{out-long, more-long, more-out}
+use Prim.Native.Nat.{ℕ, _+_, _-_, _≤_}
 use borrow.Author.Needs.{needs}
 use native.Mathlib.Omega.{arith}
 use Rattle.gdb_cut.proofs.cut.Statement.{statement}
@@ -26,6 +28,9 @@ to-o c = c .before .before .before
 
 abbrev to-start : tie.After-front → tie.Start
 to-start c = to-o c .before .before .before .before .before .before .before
+
+abbrev to-front : tie.After-write-cut → tie.After-front
+to-front c = c .before .before .before .before
 
 -- the file as it was read
 abbrev said : tie.After-front → Summary
@@ -50,18 +55,35 @@ is-good c =
     let at-is-valid : tie.After-is-valid = search in
     sym (at-is-valid .is-valid .ensures) ∙ not-false _ (at-else1 .if1 .left)
 
--- what is written, and how long it is
-abbrev result : tie.After-front → List ℕ
-result c = cutResult (said c .format) (said c .start) (body c) (to-start c .args .selection)
+-- what is written, and how long it is: opening and frames, then what stands behind the file's frames
+abbrev kept : tie.After-front → List ℕ
+kept c = cutResult (said c .format) (said c .start) (body c) (to-start c .args .selection)
+
+abbrev mark : tie.After-front → List ℕ
+mark c = let file = to-start c .args .file .now in take (length file - said c .end) (drop (said c .end) file)
 
 abbrev needed : tie.After-front → ℕ
-needed c = cutLength (said c .format) (said c .start) (body c) (to-start c .args .selection)
+needed c = cutLength (said c .format) (said c .start) (body c) (to-start c .args .selection) + (length (to-start c .args .file .now) - said c .end)
 
-gives : (c : tie.After-front) → let a = to-start c .args in cutOf (a .settings) (a .selection) (a .file .now) ≡ accepted (result c)
-gives c = cut-gives (was-read c) (is-front c) (to-start c .args .selection) (is-good c)
+end-within : (c : tie.After-front) → said c .end ≤ length (to-start c .args .file .now)
+end-within c = end-there (was-read c) (is-front c)
 
-long : (c : tie.After-front) → length (result c) ≡ needed c
-long c = result-length (was-read c) (is-front c) (to-start c .args .selection)
+all-behind : (c : tie.After-front) → mark c ≡ drop (said c .end) (to-start c .args .file .now)
+all-behind c =
+    let file = to-start c .args .file .now in
+    take-all (length file - said c .end) (drop (said c .end) file) (omega (arith, length-drop (said c .end) file))
+
+gives : (c : tie.After-front) → let a = to-start c .args in cutOf (a .settings) (a .selection) (a .file .now) ≡ accepted (kept c ++ mark c)
+gives c = cut-gives (was-read c) (is-front c) (to-start c .args .selection) (is-good c) ∙ ap (λ x. accepted (kept c ++ x)) (sym (all-behind c))
+
+kept-long : (c : tie.After-front) → length (kept c) ≡ cutLength (said c .format) (said c .start) (body c) (to-start c .args .selection)
+kept-long c = result-length (was-read c) (is-front c) (to-start c .args .selection)
+
+mark-long : (c : tie.After-front) → length (mark c) ≡ length (to-start c .args .file .now) - said c .end
+mark-long c = ap length (all-behind c) ∙ length-drop (said c .end) (to-start c .args .file .now)
+
+long : (c : tie.After-front) → length (kept c ++ mark c) ≡ needed c
+long c = omega (arith, length-append (kept c) (mark c), kept-long c, mark-long c)
 
 returns : tie.Need-returns
 returns c =
@@ -93,13 +115,54 @@ room : (c : tie.Else2) → let h = c .before .before in needed h ≤ length (to-
 room c =
     let h = c .before .before in leb-true (needed h) (length (to-start h .args .out .now)) (sym (c .before .has-room .ensures) ∙ not-false _ (c .if2 .left))
 
+-- opening and frames are written
+written : (c : tie.After-write-cut) → length (kept (to-front c)) ≡ c .write-cut .result
+written c = kept-long (to-front c) ∙ sym (c .write-cut .ensures .long)
+
 returns-4 : tie.Need-returns-4
 returns-4 c =
     let h : tie.After-front = search in
-    let a = to-start h .args in
-    let w = c .before .before .write-cut in
-    lent-written (cutOf (a .settings) (a .selection) (a .file .now)) (a .out .now) _ (w .result) (w .last .1 .1 .1 .1 .0) (gives h)
-    (w .ensures .long ∙ sym (long h)) (omega (arith, long h, room (search))) (w .ensures .bytes)
+    let w : tie.After-write-cut = search in
+    let k : tie.After-copy = search in
+    let out = to-start h .args .out .now in
+    let m = k .copy in
+    let l = more-long (kept h) out _ _ (written w) (w .write-cut .ensures .bytes) (mark h) _ _ (m .ensures .0) (m .ensures .1) in
+    lent-written _ _ _ _ _ (gives h) (sym l) (omega (arith, long h, room (search)))
+    (more-out (kept h) out _ _ (written w) (w .write-cut .ensures .bytes) (mark h) _ _ (m .ensures .0) (m .ensures .1))
+
+-- the output is as long as it was
+same : (c : tie.After-write-cut) → let h = to-front c in length (c .write-cut .last .1 .1 .1 .1 .0) ≡ length (to-start h .args .out .now)
+same c =
+    let h = to-front c in
+    let else2 : tie.Else2 = search in
+    out-long (kept h) (to-start h .args .out .now) _ _ (written c) (c .write-cut .ensures .bytes) (omega (arith, room else2, written c, kept-long h))
+
+sub-mark : tie.Need-sub-mark
+sub-mark c = end-within c
+
+sub-copy : tie.Need-sub-copy
+sub-copy c = end-within (search)
+
+part-copy-start : tie.Need-part-copy-start
+part-copy-start c = end-within (search)
+
+sub-copy-2 : tie.Need-sub-copy-2
+sub-copy-2 c = let w : tie.After-write-cut = search in omega (arith, written w, kept-long (to-front w), room (search), same w)
+
+part-copy-start-2 : tie.Need-part-copy-start-2
+part-copy-start-2 c = let w : tie.After-write-cut = search in omega (arith, written w, kept-long (to-front w), room (search), same w)
+
+copy-requires : tie.Need-copy-requires
+copy-requires c κs =
+    let w : tie.After-write-cut = search in
+    omega (arith, written w, kept-long (to-front w), mark-long (to-front w), room (search), same w)
+
+add-t30 : tie.Need-add-t30
+add-t30 c =
+    let w : tie.After-write-cut = search in
+    let k : tie.After-copy = search in
+    let q = to-start (to-front w) in
+    omega (arith, written w, kept-long (to-front w), mark-long (to-front w), k .copy .ensures .0, room (search))
 
 has-room-requires : tie.Need-has-room-requires
 has-room-requires c κs = (start-there (was-read c) (is-front c), heads-there (was-read c) (is-front c))
@@ -107,10 +170,11 @@ has-room-requires c κs = (start-there (was-read c) (is-front c), heads-there (w
 write-cut-requires : tie.Need-write-cut-requires
 write-cut-requires c κs =
     let h : tie.After-front = search in
-    (start-there (was-read h) (is-front h), heads-there (was-read h) (is-front h), room (search))
+    (start-there (was-read h) (is-front h), heads-there (was-read h) (is-front h), omega (arith, room (search)))
 
 pub cut-spec : {M : Type 1} → statement M
 cut-spec =
     tie.close
-    (tie.spec (λ c κs. search needs) returns (λ c κs. search needs) (λ c. search needs) (λ c. search needs) (λ c κs. search needs) has-room-requires
-    returns-2 write-cut-requires returns-3 (λ c. search needs) returns-4)
+    (tie.spec (λ c κs. search needs) returns (λ c κs. search needs) (λ c. search needs) (λ c. search needs) (λ c κs. search needs) sub-mark has-room-requires
+    returns-2 write-cut-requires sub-copy part-copy-start (λ c. search needs) sub-copy-2 part-copy-start-2 (λ c. search needs) copy-requires
+    add-t30 returns-3 (λ c. search needs) returns-4)

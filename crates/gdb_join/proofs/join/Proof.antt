@@ -1,14 +1,15 @@
 -- `gdb_join::join` meets its contract: each way out is one of the three outcomes.
 -- Assumes nothing.
-use mathlib.Core.Path.{_≡_, sym}
-use mathlib.Core.List.{List}
+use mathlib.Core.Path.{_≡_, sym, ap, _∙_}
+use mathlib.Core.List.{List, _++_}
 use Prim.Native.Nat.{ℕ, _-_, _≤_}
 use lib.ListN.{length, take, drop, length-drop}
 use lib.Seq.{length-take-le}
 use Rattle.gdb_read.specs.Steps.{Summary, openedMeaning}
+use Rattle.fields.specs.Answer.{accepted}
 use Rattle.fields.specs.Output.{lent-written, lent-full, lent-refused}
-use Rattle.gdb_join.specs.JoinLaws.{refused-given, Joins, joinedLength, paired-given, pair-joins}
-use Rattle.fields.specs.Copies.{first-over, more-long, more-out}
+use Rattle.gdb_join.specs.JoinLaws.{refused-given, Joins, joinedMark, joinedLength, paired-given, pair-joins}
+use Rattle.gdb_format.specs.Trace.{putMark}
 use borrow.Author.Needs.{needs}
 use native.Mathlib.Omega.{arith}
 use Rattle.gdb_join.proofs.join.Statement.{statement}
@@ -46,76 +47,57 @@ frames-long c =
     let j = joins c in
     length-take-le (two c .end - two c .start) (drop (two c .start) s) (omega (arith, j .second-start, j .second-end, length-drop (two c .start) s))
 
--- there is room for both
-room : (c : tie.Else2) → let h : tie.After-a = c .before .before .before in joinedLength (one h) (two h) ≤ length (to-start h .args .out .now)
-room c = let h : tie.After-a = search in omega (arith, joins h .second-start, c .before .if1 .left, c .if2 .left)
+-- the mark is that of either
+mark-is : (c : tie.After-is-marked) → let h : tie.After-a = search in putMark (c .is-marked .result) ≡ joinedMark (one h) (two h)
+mark-is c = ap putMark (c .is-marked .ensures)
 
-returns-4 : tie.Need-returns-4
-returns-4 c =
-    let h : tie.After-a = search in
-    let out = to-start h .args .out .now in
-    let k : tie.After-copy = search in
-    let m = c .before .before .copy2 in
-    let w = first-over (body h) out _ _ (k .copy .ensures .0) (k .copy .ensures .1) in
-    let l = more-long (body h) out _ _ (sym (k .copy .ensures .0)) w (frames h) _ _ (m .ensures .0) (m .ensures .1) in
-    lent-written _ _ _ _ _ (joins h .gives) (sym l) (omega (arith, joins h .long, room (search)))
-    (more-out (body h) out _ _ (sym (k .copy .ensures .0)) w (frames h) _ _ (m .ensures .0) (m .ensures .1))
-
-returns : tie.Need-returns
-returns c = let j = joins (search) in lent-full _ _ _ (j .gives) (omega (arith, j .long, c .if1 .taken))
-
-returns-2 : tie.Need-returns-2
-returns-2 c = let j = joins (search) in lent-full _ _ _ (j .gives) (omega (arith, j .long, j .second-start, c .before .if1 .left, c .if2 .taken))
+-- there is room for all
+room : (c : tie.Else1) → let h : tie.After-a = search in joinedLength (one h) (two h) ≤ length (to-start h .args .out .now)
+room c = omega (arith, c .if1 .left, c .before .joined-length .ensures)
 
 returns-3 : tie.Need-returns-3
 returns-3 c =
+    let h : tie.After-a = search in
+    let k : tie.After-write-join = search in
+    let m : tie.After-is-marked = search in
+    let j = joins h in
+    let w = k .write-join .ensures in
+    lent-written _ _ ((body h ++ frames h) ++ putMark (m .is-marked .result)) _ _ (j .gives ∙ ap (λ x. accepted ((body h ++ frames h) ++ x)) (sym (mark-is m)))
+    (w .long) (omega (arith, j .long, ap (λ x. length ((body h ++ frames h) ++ x)) (mark-is m), room (search))) (w .bytes)
+
+returns : tie.Need-returns
+returns c = let j = joins (search) in lent-full _ _ _ (j .gives) (omega (arith, j .long, c .if1 .taken, c .before .joined-length .ensures))
+
+returns-2 : tie.Need-returns-2
+returns-2 c =
     let f : tie.After-shared-slice-known = search in
     let s : tie.After-shared-slice-known2 = search in
     lent-refused _ _ _ (refused-given _ _ _ (f .shared-slice-known .given) (s .shared-slice-known2 .given) (c .before .n .given .1) (search))
 
-sub-if2-2 : tie.Need-sub-if2-2
-sub-if2-2 c = joins (search) .second-start
+-- no sum runs over, since the join is no longer than the limit
+joined-length-requires : tie.Need-joined-length-requires
+joined-length-requires c κs = let j = joins (search) in (j .second-start, omega (arith, j .short))
 
-slice-aggregate-copy : tie.Need-slice-aggregate-copy
-slice-aggregate-copy c = sym (body-long (search))
+slice-aggregate-write-join : tie.Need-slice-aggregate-write-join
+slice-aggregate-write-join c = sym (body-long (search))
 
-copy-requires : tie.Need-copy-requires
-copy-requires c κs = omega (arith, body-long (search), room (search))
+sub-write-join : tie.Need-sub-write-join
+sub-write-join c = joins (search) .second-start
 
-sub-copy-2 : tie.Need-sub-copy-2
-sub-copy-2 c = let k : tie.After-copy = search in omega (arith, body-long (search), k .copy .ensures .0, room (search))
+part-write-join-start : tie.Need-part-write-join-start
+part-write-join-start c = let j = joins (search) in omega (arith, j .second-start, j .second-end)
 
-part-copy-start-2 : tie.Need-part-copy-start-2
-part-copy-start-2 c = let k : tie.After-copy = search in omega (arith, body-long (search), k .copy .ensures .0, room (search))
+part-write-join-end : tie.Need-part-write-join-end
+part-write-join-end c = let j = joins (search) in omega (arith, j .second-start, j .second-end)
 
-part-copy-end-2 : tie.Need-part-copy-end-2
-part-copy-end-2 c = let k : tie.After-copy = search in omega (arith, body-long (search), k .copy .ensures .0, room (search))
-
-copy-requires-2 : tie.Need-copy-requires-2
-copy-requires-2 c κs =
+write-join-requires : tie.Need-write-join-requires
+write-join-requires c κs =
     let h : tie.After-a = search in
-    let k : tie.After-copy = search in
-    omega (arith, body-long h, frames-long h, k .copy .ensures .0, room (search))
-
-sub-copy : tie.Need-sub-copy
-sub-copy c = joins (search) .second-start
-
-part-copy-start : tie.Need-part-copy-start
-part-copy-start c = let j = joins (search) in omega (arith, j .second-start, j .second-end)
-
-part-copy-end : tie.Need-part-copy-end
-part-copy-end c = let j = joins (search) in omega (arith, j .second-start, j .second-end)
-
-add-t28 : tie.Need-add-t28
-add-t28 c =
-    let h : tie.After-a = search in
-    let k : tie.After-copy = search in
-    let q = to-start h in
-    omega (arith, body-long h, frames-long h, c .before .before .copy2 .ensures .0, k .copy .ensures .0, room (search))
+    omega (arith, body-long h, frames-long h, ap length (mark-is (search)), room (search))
 
 pub join-spec : {M : Type 1} → statement M
 join-spec =
     tie.close
-    (tie.spec (λ c κs. search needs) (λ c. search needs) (λ c. search needs) returns (λ c. search needs) sub-if2-2 returns-2 slice-aggregate-copy copy-requires
-    sub-copy part-copy-start part-copy-end sub-copy-2 part-copy-start-2 part-copy-end-2 copy-requires-2 add-t28 returns-3
-    (λ c. search needs) returns-4)
+    (tie.spec (λ c κs. search needs) (λ c. search needs) (λ c. search needs) joined-length-requires returns (λ c κs. search needs)
+    slice-aggregate-write-join sub-write-join part-write-join-start part-write-join-end write-join-requires returns-2
+    (λ c. search needs) returns-3)

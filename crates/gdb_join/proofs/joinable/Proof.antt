@@ -2,16 +2,14 @@
 -- Assumes nothing.
 use mathlib.Core.Path.{_≡_, sym, _∙_}
 use mathlib.Core.Bool.{Bool, true, false}
-use Prim.Native.Nat.{_≤_}
 use lib.ListN.{take}
 use lib.Seq.{length-take-le}
 use Rattle.fields.specs.Given.{at-case}
 use borrow.Author.Tests.{not-true, not-false}
-use Rattle.refusals.specs.Refusal.{limit}
 use Rattle.fields.specs.Lists.{clash}
 use Rattle.gdb_read.specs.Steps.{Summary, readingMeaning, openedMeaning}
 use Rattle.gdb_frames.specs.File.{WasRead, read-given}
-use Rattle.gdb_join.specs.JoinLaws.{join-first, join-second, pair-of-refused, first-short, first-start, second-start, second-frames}
+use Rattle.gdb_join.specs.JoinLaws.{join-first, join-second, pair-of-refused, countable, first-start, second-start}
 use Rattle.gdb_join.specs.JoinLaws.{pair-differs, pair-long, pair-sound}
 use borrow.Author.Needs.{needs}
 use native.Mathlib.Omega.{arith}
@@ -37,9 +35,6 @@ two c = openedMeaning (c .b .given .0 .0)
 second-read : (c : tie.After-b) → let a = to-start (to-a c) .args in WasRead (a .settings) (a .second .now) (two c)
 second-read c = let slice : tie.After-shared-slice-known2 = search in read-given (slice .shared-slice-known2 .given) (c .b .given .1) (search)
 
-short : (c : tie.After-b) → one (to-a c) .end ≤ limit
-short c = first-short (first-read (to-a c)) (second-read c)
-
 returns : tie.Need-returns
 returns c =
     pair-differs (first-read (search)) (second-read (search))
@@ -53,7 +48,7 @@ same c = c .before .same .ensures .0 (not-false _ (c .if1 .left))
 returns-2 : tie.Need-returns-2
 returns-2 c =
     let b : tie.After-b = search in
-    pair-long (first-read (search)) (second-read b) (same (search)) (omega (arith, short b, c .if2 .taken))
+    pair-long (first-read (search)) (second-read b) (same (search)) (omega (arith, c .before .joined-length .ensures, c .if2 .taken))
 
 returns-3 : tie.Need-returns-3
 returns-3 c =
@@ -74,7 +69,7 @@ returns-4 c =
 returns-5 : tie.Need-returns-5
 returns-5 c =
     let b : tie.After-b = search in
-    pair-sound (first-read (search)) (second-read b) (same (search)) (omega (arith, short b, c .if2 .left))
+    pair-sound (first-read (search)) (second-read b) (same (search)) (omega (arith, c .before .joined-length .ensures, c .if2 .left))
 
 slice-aggregate-same : tie.Need-slice-aggregate-same
 slice-aggregate-same c =
@@ -86,14 +81,12 @@ slice-aggregate-same-2 c =
     let b : tie.After-b = search in
     sym (length-take-le _ (to-start (to-a b) .args .second .now) (second-start (first-read (to-a b)) (second-read b)))
 
-sub-if2 : tie.Need-sub-if2
-sub-if2 c = short (search)
-
-sub-if2-2 : tie.Need-sub-if2-2
-sub-if2-2 c = second-frames (first-read (search)) (second-read (search))
+joined-length-requires : tie.Need-joined-length-requires
+joined-length-requires c κs = countable (first-read (search)) (second-read (search))
 
 pub joinable-spec : {M : Type 1} → statement M
 joinable-spec =
     tie.close
     (tie.spec (λ c κs. search needs) (λ c. search needs) (λ c. search needs) (λ c κs. search needs) (λ c. search needs) (λ c. search needs)
-    slice-aggregate-same slice-aggregate-same-2 (λ c κs. search needs) returns sub-if2 sub-if2-2 returns-2 returns-3 returns-4 returns-5)
+    slice-aggregate-same slice-aggregate-same-2 (λ c κs. search needs) returns joined-length-requires returns-2
+    returns-3 returns-4 returns-5)

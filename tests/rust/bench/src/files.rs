@@ -1,5 +1,6 @@
 //! The files that are read: large, sound, and the same in every run.
 use std::iter::repeat_n;
+use tufakpeni_tests::make::gdb::END_MARK;
 
 /// The longest file that is read.
 pub const LONGEST: usize = 64 << 20;
@@ -82,20 +83,22 @@ fn variable(file: &mut Writer) {
 /// Tracepoint numbers go from 1 to this in turn.
 pub const NUMBERS: u64 = 8;
 
-/// A trace of as many frames as `length` bytes hold.
-pub fn trace(frames: Frames, big: bool, length: usize) -> Vec<u8> {
+/// A trace of as many frames as `length` bytes hold, and the end mark where it has one.
+pub fn trace(frames: Frames, marked: bool, big: bool, length: usize) -> Vec<u8> {
     let mut data = Writer { bytes: Vec::new(), big };
     frames.blocks(&mut data);
     let data = data.bytes;
+    let mark = if marked { END_MARK } else { &[] };
     let mut file = Writer::new(big, b"\x7fTRACE0\nR 776\nstatus 0;tstop::0\ntp T1:400580:E:0:0\n\n");
     for number in (1..=NUMBERS).cycle() {
-        if file.bytes.len() + 6 + data.len() > length {
+        if file.bytes.len() + 6 + data.len() + mark.len() > length {
             break;
         }
         file.number(2, number);
         file.number(4, data.len() as u64);
         file.text(&data);
     }
+    file.text(mark);
     file.bytes
 }
 

@@ -26,9 +26,9 @@ struct Work {
 
 impl Work {
     /// Every buffer is written here, so that no call is the first to touch one.
-    fn new(frames: Frames, big: bool) -> Work {
-        let file = files::trace(frames, big, LONGEST);
-        let joined = files::trace(frames, big, LONGEST / 2);
+    fn new(frames: Frames, marked: bool, big: bool) -> Work {
+        let file = files::trace(frames, marked, big, LONGEST);
+        let joined = files::trace(frames, marked, big, LONGEST / 2);
         let order = u8::from(big);
         let count = (Side::Plain.reader().frame_count)(order, &file).count;
         let frame = Frame { tracepoint: 1, data: Part { place: 1, length: 1 } };
@@ -54,6 +54,11 @@ impl Work {
 fn frame_count(side: Side, work: &mut Work) -> Told {
     let answer = (side.reader().frame_count)(work.order, black_box(&work.file));
     (answer.refusal, answer.count, 0)
+}
+
+fn end_mark(side: Side, work: &mut Work) -> Told {
+    let answer = (side.reader().end_mark)(work.order, black_box(&work.file));
+    (answer.refusal, answer.marked.into(), 0)
 }
 
 /// The second reader's own call, since its answer in the library's struct makes a copy of the table.
@@ -126,8 +131,9 @@ struct Question {
     copy: Option<fn(&mut Work, usize)>,
 }
 
-const QUESTIONS: [Question; 7] = [
+const QUESTIONS: [Question; 8] = [
     Question { name: "number of frames", ask: frame_count, copy: None },
+    Question { name: "end mark", ask: end_mark, copy: None },
     Question { name: "frame table", ask: frame_table, copy: None },
     Question { name: "last frame", ask: last_frame, copy: None },
     Question { name: "memory in the last frame", ask: last_memory, copy: None },
@@ -178,17 +184,18 @@ fn compare_tables(work: &Work) {
     assert!(same, "the frame tables differ");
 }
 
-/// Each kind of frame, with the ratio to plain Rust that is not to be passed.
-const FILES: [(&str, Frames, f64); 3] = [
-    ("796-byte frames", Frames::Registers, 1.05),
-    ("114-byte frames", Frames::Memory, 1.2),
-    ("19-byte frames", Frames::Variable, 1.2),
+/// Each kind of frame, whether the end mark stands behind them, and the ratio to plain Rust that is not to be passed.
+const FILES: [(&str, Frames, bool, f64); 4] = [
+    ("796-byte frames", Frames::Registers, false, 1.05),
+    ("114-byte frames", Frames::Memory, false, 1.2),
+    ("19-byte frames", Frames::Variable, false, 1.2),
+    ("19-byte frames, end mark", Frames::Variable, true, 1.2),
 ];
 
 pub fn run(rounds: usize) {
-    for (file, frames, goal) in FILES {
+    for (file, frames, marked, goal) in FILES {
         for big in [false, true] {
-            let mut work = Work::new(frames, big);
+            let mut work = Work::new(frames, marked, big);
             for question in &QUESTIONS {
                 let (_, length, _) = question.compare(&mut work);
                 let (library, plain, copy) = question.times(rounds, &mut work, length);

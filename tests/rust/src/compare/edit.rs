@@ -1,7 +1,7 @@
 //! Cuts, joins and pairs.
 
 use super::lent::Output;
-use super::{ask, indices, Comparer, Difference};
+use super::{ask, indices, Comparer, Difference, Met};
 use crate::answers::SECOND;
 use crate::c::{Length, Selection};
 use crate::make::{selection, Random};
@@ -31,7 +31,12 @@ impl Comparer<'_> {
     /// Joins, and every question about the two traces as a pair.
     pub fn pair(&mut self, random: &mut Random, order: u8, first: &[u8], second: &[u8]) -> Result<(), Difference> {
         let most = first.len() + second.len();
-        self.in_rooms(format_args!("join({order})"), most, |reader, out| (reader.join)(order, first, second, out))?;
+        let call = format_args!("join({order})");
+        let joined = self.in_rooms(call, most, |reader, out| (reader.join)(order, first, second, out))?;
+        if joined.refusal == 0 {
+            let [first, second] = [first, second].map(|file| (SECOND.end_mark)(order, file).marked == 1);
+            self.meet(Met::Join { first, second });
+        }
         let first_count = (SECOND.frame_count)(order, first).count;
         let count = first_count + (SECOND.frame_count)(order, second).count;
         let border = first_count.saturating_sub(2)..first_count + 2;
@@ -52,12 +57,12 @@ impl Comparer<'_> {
         Ok(second)
     }
 
-    /// A result with room to spare, with room for it alone, and with a byte less.
-    fn in_rooms(&mut self, call: Arguments, most: usize, edit: impl Edit) -> Result<(), Difference> {
-        let length = self.in_room(call, most, &edit)?.length;
-        self.in_room(call, length, &edit)?;
-        self.in_room(call, length.saturating_sub(1), &edit)?;
-        Ok(())
+    /// A result with room to spare, with room for it alone, and with a byte less; the answer is the first one's.
+    fn in_rooms(&mut self, call: Arguments, most: usize, edit: impl Edit) -> Result<Length, Difference> {
+        let answer = self.in_room(call, most, &edit)?;
+        self.in_room(call, answer.length, &edit)?;
+        self.in_room(call, answer.length.saturating_sub(1), &edit)?;
+        Ok(answer)
     }
 
     fn in_room(&mut self, call: Arguments, room: usize, edit: &impl Edit) -> Result<Length, Difference> {

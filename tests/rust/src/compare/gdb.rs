@@ -1,7 +1,7 @@
 //! The questions about a GDB trace.
 
 use super::lent::Table;
-use super::{ask, indices, Comparer, Difference};
+use super::{ask, indices, Comparer, Difference, Met};
 use crate::answers::SECOND;
 use crate::c::Count;
 use crate::make::{MadeTrace, Random};
@@ -37,6 +37,10 @@ impl Comparer<'_> {
     /// Every question about a trace, for all its lines, frames and blocks; the answer is the count of frames.
     pub fn questions(&mut self, order: u8, file: &[u8]) -> Result<Count, Difference> {
         let count = ask!(self.frame_count([order] file []))?;
+        let mark = ask!(self.end_mark([order] file []))?;
+        if mark.refusal == 0 {
+            self.meet(Met::Marked(mark.marked == 1));
+        }
         for room in [0, count.count.saturating_sub(1), count.count, count.count + 2] {
             self.table(order, file, room)?;
         }

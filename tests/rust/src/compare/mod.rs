@@ -4,6 +4,9 @@ mod dat;
 mod edit;
 mod gdb;
 mod lent;
+mod met;
+
+pub use met::Met;
 
 use crate::answers::Answer;
 use crate::reader::Reader;
@@ -29,6 +32,7 @@ pub struct Comparer<'r> {
     /// How many frames, and blocks of a frame, are asked for one by one.
     most: usize,
     pub calls: usize,
+    /// A bit for each that was met.
     met: u32,
 }
 
@@ -55,16 +59,22 @@ impl<'r> Comparer<'r> {
         Comparer { most: usize::MAX, ..Comparer::new(reader) }
     }
 
-    /// Which refusals were met since this was last asked.
-    pub fn take_met(&mut self) -> impl Iterator<Item = usize> {
-        let met = std::mem::take(&mut self.met);
-        (1..=17).filter(move |number| met & (1 << number) != 0)
+    /// What was met since this was last asked.
+    pub fn take_met(&mut self) -> impl Iterator<Item = Met> {
+        let bits = std::mem::take(&mut self.met);
+        Met::all().filter(move |met| bits & (1 << met.index()) != 0)
+    }
+
+    fn meet(&mut self, met: Met) {
+        self.met |= 1 << met.index();
     }
 
     /// Counts a call, and tells the answer where both give the same.
     fn same<A: Answer>(&mut self, call: impl Display, given: A, second: A) -> Result<A, Difference> {
         self.calls += 1;
-        self.met |= 1 << second.refusal();
+        if second.refusal() != 0 {
+            self.meet(Met::Refusal(second.refusal()));
+        }
         if given != second {
             return Err(Difference::new(call, given, second));
         }

@@ -3,9 +3,10 @@
 use super::{put, Random};
 
 pub const HEAD: &[u8] = b"\x7fTRACE0\n";
+pub const END_MARK: &[u8] = &[0; 4];
 
 /// A frame of written blocks. `size` is what its head says where that is not the truth.
-#[derive(Clone, Default)]
+#[derive(Clone)]
 pub struct Frame {
     pub tracepoint: u16,
     pub blocks: Vec<Vec<u8>>,
@@ -13,22 +14,28 @@ pub struct Frame {
 }
 
 impl Frame {
+    /// A frame of these blocks, with a number that begins no end mark.
+    pub fn of(blocks: Vec<Vec<u8>>) -> Self {
+        Frame { tracepoint: 1, blocks, size: None }
+    }
+
     pub fn data(&self) -> Vec<u8> {
         self.blocks.concat()
     }
 }
 
-/// A trace; `register_size` is its R line's number.
+/// A trace; `register_size` is its R line's number, and `marked` says whether the end mark stands behind the frames.
 #[derive(Clone, Default)]
 pub struct Trace {
     pub order: u8,
     pub lines: Vec<Vec<u8>>,
     pub register_size: Option<usize>,
     pub frames: Vec<Frame>,
+    pub marked: bool,
 }
 
 impl Trace {
-    /// A trace of every sort, R line or none.
+    /// A trace of every sort, R line or none, marked or not.
     pub fn valid(random: &mut Random, order: u8) -> Self {
         let size = random.pick(&[0, 1, 2, 3, 4, 7, 8, 16, 40, 264]);
         let size = if random.one_in(500) { random.pick(&[776, 65_535]) } else { size };
@@ -39,7 +46,7 @@ impl Trace {
     pub fn with(random: &mut Random, order: u8, register_size: Option<usize>) -> Self {
         let lines = description(random, register_size);
         let frames = frames(random, order, register_size);
-        Trace { order, lines, register_size, frames }
+        Trace { order, lines, register_size, frames, marked: random.one_in(2) }
     }
 
     /// A trace with at least one frame.
@@ -51,10 +58,10 @@ impl Trace {
         trace
     }
 
-    /// The same opening with other frames.
+    /// The same opening with other frames, marked or not.
     pub fn sibling(&self, random: &mut Random) -> Self {
         let frames = frames(random, self.order, self.register_size);
-        Trace { frames, ..self.clone() }
+        Trace { frames, marked: random.one_in(2), ..self.clone() }
     }
 
     /// Head and lines, without the closing empty line.
@@ -81,7 +88,17 @@ impl Trace {
             put(&mut bytes, self.order, 4, frame.size.map_or(data.len() as u64, u64::from));
             bytes.extend_from_slice(&data);
         }
+        bytes.extend_from_slice(self.mark());
         bytes
+    }
+
+    /// What stands behind the frames.
+    pub fn mark(&self) -> &'static [u8] {
+        if self.marked {
+            END_MARK
+        } else {
+            &[]
+        }
     }
 }
 
@@ -154,12 +171,13 @@ pub fn frame(random: &mut Random, order: u8, register_size: Option<usize>) -> Fr
     Frame { tracepoint: tracepoint(random), blocks, size: None }
 }
 
-/// A number of any size, but a few often, so that frames of one number repeat.
+/// A frame's number, of any size but not 0; a few often, so that frames of one number repeat. One byte of 256 is 0, as
+/// of 1 in the other order.
 pub fn tracepoint(random: &mut Random) -> u16 {
     if random.one_in(8) {
-        return random.number() as u16;
+        return (random.number() as u16).max(1);
     }
-    random.pick(&[0, 1, 1, 1, 2, 2, 3, 4, 255, 256, 257, 32_767, 32_768, 65_534, 65_535])
+    random.pick(&[1, 1, 1, 2, 2, 3, 4, 255, 256, 256, 257, 32_767, 32_768, 65_534, 65_535])
 }
 
 pub fn block(random: &mut Random, order: u8, register_size: Option<usize>) -> Vec<u8> {

@@ -1,19 +1,22 @@
 //! GDB traces at both sides of each edge of the rules, each with the refusal that its making settles.
 
-use super::gdb::{block, memory, memory_at, registers, text, variable, Frame, Trace, HEAD};
+use super::gdb::{block, memory, memory_at, registers, text, variable, Frame, Trace, END_MARK, HEAD};
 use super::{Made, Random};
 use crate::second::Refusal;
 
 /// A maker of traces at one edge, in a byte order.
 type Edge = fn(&mut Random, u8) -> Made;
 
-pub const EDGES: [Edge; 16] = [
+pub const EDGES: [Edge; 19] = [
     head,
     no_empty_line,
     register_line,
     repeated_line,
     unended_line,
     tail,
+    end_mark,
+    bad_mark,
+    number_zero,
     size_past_file,
     bad_letter,
     short_memory,
@@ -135,26 +138,84 @@ fn unended_line(random: &mut Random, order: u8) -> Made {
     Made::new("unended line", bytes, refused(Refusal::NoEmptyLine))
 }
 
-/// 1 to 5 bytes after the last frame; 6 are a frame of size 0 where they say so.
+/// The bytes of an unmarked trace. Its end is as often as not one that a mark is easily taken for or lost behind: the
+/// bare opening, an empty frame, or data that end in zeros.
+fn unmarked(random: &mut Random, order: u8) -> Vec<u8> {
+    let mut trace = Trace { marked: false, ..any_trace(random, order) };
+    match random.below(6) {
+        0 => trace.frames.clear(),
+        1 => trace.frames.push(Frame { tracepoint: random.pick(&[1, 256]), ..Frame::of(Vec::new()) }),
+        2 => trace.frames.push(Frame::of(vec![memory_at(order, 0, &vec![0; random.below(9)])])),
+        _ => {}
+    }
+    trace.bytes()
+}
+
+/// 1 to 5 bytes after the last frame, which do not begin with two zeros; 6 are a frame of size 0 where they say so.
 fn tail(random: &mut Random, order: u8) -> Made {
-    let mut bytes = any_trace(random, order).bytes();
+    let mut bytes = unmarked(random, order);
     let length = random.below(7);
-    let tail = if length == 6 { vec![0; length] } else { random.bytes(length) };
+    let mut tail = if length == 6 || random.one_in(2) { vec![0; length] } else { random.bytes(length) };
+    if tail.starts_with(&[0, 0]) {
+        tail[random.below(2)] = 1;
+    }
     bytes.extend_from_slice(&tail);
     Made::new("tail", bytes, refused_if((1..=5).contains(&length), Refusal::ShortHead))
 }
 
-/// A last frame whose size is right, one too many or far too many; bad blocks in it do not matter then.
+/// The end mark behind every sort of end, or none.
+fn end_mark(random: &mut Random, order: u8) -> Made {
+    let mut bytes = unmarked(random, order);
+    let mark: &[u8] = random.pick(&[b"", END_MARK, END_MARK]);
+    bytes.extend_from_slice(mark);
+    Made::new("end mark", bytes, ACCEPTED)
+}
+
+/// Two zeros and not the end mark: cut short, with another byte in it, or with bytes behind it.
+fn bad_mark(random: &mut Random, order: u8) -> Made {
+    let mut bytes = unmarked(random, order);
+    let length = random.pick(&[2, 3, 4, 5, 5, 6, 7, 8, 10, 16]);
+    let mut mark = vec![0; length];
+    match random.below(3) {
+        0 => mark[2..].copy_from_slice(&random.bytes(length - 2)),
+        1 if length > 4 => mark[4..].copy_from_slice(&random.bytes(length - 4)),
+        _ => {}
+    }
+    if mark == END_MARK {
+        mark[2 + random.below(2)] = random.pick(&[1, 0xFF]);
+    }
+    bytes.extend_from_slice(&mark);
+    Made::new("bad end mark", bytes, refused(Refusal::BadMark))
+}
+
+/// A frame of number 0 among the others, sound in itself or with any fault: its size past the file, or a bad block.
+fn number_zero(random: &mut Random, order: u8) -> Made {
+    let size = any_size(random);
+    let (mut trace, n) = any_frame(random, order, size);
+    let frame = &mut trace.frames[n];
+    frame.tracepoint = 0;
+    match random.below(4) {
+        0 => frame.size = Some(u32::MAX),
+        1 => frame.blocks.push(vec![random.pick(b"xRMV")]),
+        2 => frame.blocks.clear(),
+        _ => {}
+    }
+    Made::new("number 0", trace.bytes(), refused(Refusal::BadMark))
+}
+
+/// A last frame whose size is right, or past the file by one or by far more; bad blocks in it do not matter then. Nor
+/// does an end mark, which is data by that size.
 fn size_past_file(random: &mut Random, order: u8) -> Made {
     let size = any_size(random);
     let (mut trace, _) = any_frame(random, order, size);
+    let mark = trace.mark().len();
     let last = trace.frames.last_mut().expect("a frame");
     let past = !random.one_in(3);
     if past {
         if random.one_in(2) {
             last.blocks.insert(0, random.bytes(3));
         }
-        let size = last.data().len() as u32;
+        let size = (last.data().len() + mark) as u32;
         last.size = Some(random.pick(&[size + 1, size + 2, size + 256, size + 65_536, 1 << 31, u32::MAX]));
     }
     Made::new("size", trace.bytes(), refused_if(past, Refusal::DataPastFile))
@@ -213,7 +274,7 @@ fn no_register_size(random: &mut Random, order: u8) -> Made {
     Made::new("no R line", trace.bytes(), refused_if(!has_line, Refusal::NoRegisterSize))
 }
 
-/// Two faults in two frames: the one that stands first decides, though the other is of a lower number.
+/// Two faults in two frames: the one that stands first decides, though the other is of a lower number or a bad mark.
 fn fault_in_the_earlier_frame(random: &mut Random, order: u8) -> Made {
     let mut trace = Trace::with(random, order, None);
     let memory = memory_at(order, 1, b"ab");
@@ -224,10 +285,10 @@ fn fault_in_the_earlier_frame(random: &mut Random, order: u8) -> Made {
     ];
     let (fault, refusal) = &faults[random.below(3)];
     let first = block(random, order, None);
-    trace.frames.push(Frame { blocks: vec![first, fault.clone()], ..Frame::default() });
+    trace.frames.push(Frame::of(vec![first, fault.clone()]));
     let (fault, _) = &faults[random.below(3)];
     let size = random.pick(&[None, Some(u32::MAX)]);
-    trace.frames.push(Frame { blocks: vec![fault.clone()], size, ..Frame::default() });
+    trace.frames.push(Frame { tracepoint: random.pick(&[0, 1]), blocks: vec![fault.clone()], size });
     Made::new("two faults", trace.bytes(), refused(*refusal))
 }
 
@@ -270,6 +331,6 @@ fn largest_blocks(random: &mut Random, order: u8) -> Made {
     if short {
         blocks.last_mut().expect("a block").pop();
     }
-    trace.frames.push(Frame { blocks, ..Frame::default() });
+    trace.frames.push(Frame::of(blocks));
     Made::new("largest blocks", trace.bytes(), refused_if(short, Refusal::BlockPastData))
 }

@@ -1,16 +1,17 @@
 //! Files at the length limit, and of many frames and blocks.
 
-use super::gdb::{memory_at, variable, Frame, Trace};
-use super::Random;
+use super::gdb::{memory_at, variable, Frame, Trace, END_MARK};
+use super::{Made, MadeTrace, Random};
 use crate::second::MAX_LENGTH;
 
 /// The largest memory block with its letter, address and length.
 const BLOCK: usize = 11 + 65_535;
 
-/// A trace of an opening `H 0A` and of one frame, with memory blocks that fill the file to this length.
-pub fn trace(order: u8, length: usize) -> Vec<u8> {
-    let mut trace = Trace { order, ..Trace::default() };
-    let mut left = length - trace.opening().len() - 6;
+/// A trace of an opening `H 0A` and of one frame, with memory blocks that fill the file to this length, the end mark
+/// counted where it has one.
+pub fn trace(order: u8, marked: bool, length: usize) -> Vec<u8> {
+    let mut trace = Trace { order, marked, ..Trace::default() };
+    let mut left = length - trace.opening().len() - 6 - trace.mark().len();
     let mut blocks = Vec::new();
     while left > 0 {
         // A rest of 1 to 10 bytes would hold no block.
@@ -18,8 +19,22 @@ pub fn trace(order: u8, length: usize) -> Vec<u8> {
         blocks.push(memory_at(order, left as u64, &vec![b'M'; size - 11]));
         left -= size;
     }
-    trace.frames.push(Frame { tracepoint: 1, blocks, size: None });
+    trace.frames.push(Frame::of(blocks));
     trace.bytes()
+}
+
+/// Two traces of each marking whose join is as long as may be, or longer by this much. The mark counts in it once;
+/// where there is one, the join would be short enough without it.
+pub fn joined(order: u8, beyond: usize) -> impl Iterator<Item = MadeTrace> {
+    let mark = |marked: bool| if marked { END_MARK.len() } else { 0 };
+    let opening = Trace::default().opening().len();
+    let markings = [(false, false), (false, true), (true, false), (true, true)];
+    markings.into_iter().map(move |(first, second)| {
+        let half = MAX_LENGTH / 2;
+        let rest = half + beyond - mark(first || second);
+        let made = Made::new("longest join", trace(order, first, half + mark(first)), Some(0));
+        MadeTrace { made, order, partner: trace(order, second, opening + rest + mark(second)) }
+    })
 }
 
 /// A trace of more frames than 16 bits count, and of as many variables in its first one.
@@ -27,9 +42,9 @@ pub fn many(order: u8) -> Vec<u8> {
     const COUNT: usize = 70_000;
     let random = &mut Random::new(order.into());
     let blocks = (0..COUNT).map(|_| variable(random, order)).collect();
-    let mut frames = vec![Frame { blocks, ..Frame::default() }];
-    frames.extend((0..COUNT).map(|n| Frame { tracepoint: n as u16, ..Frame::default() }));
-    Trace { order, frames, ..Trace::default() }.bytes()
+    let mut frames = vec![Frame::of(blocks)];
+    frames.extend((0..COUNT).map(|n| Frame { tracepoint: (n as u16).max(1), ..Frame::of(Vec::new()) }));
+    Trace { order, frames, marked: order == 1, ..Trace::default() }.bytes()
 }
 
 /// A file continued with zero bytes to one that is as long as may be, or longer by this much.

@@ -67,7 +67,10 @@ fn partner(random: &mut Random, trace: &Trace, made: &Made) -> Vec<u8> {
     let mut sibling = trace.sibling(random);
     match random.below(8) {
         0..=2 => sibling.bytes(),
-        3 => sibling.opening(),
+        3 => {
+            sibling.frames.clear();
+            sibling.bytes()
+        }
         4 => made.file().to_vec(),
         5 => damage::damaged(random, made.file().to_vec()).bytes,
         6 => Trace::valid(random, trace.order).bytes(),

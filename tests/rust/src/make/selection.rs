@@ -1,7 +1,6 @@
 //! Selections, right and wrong ones.
 
-use super::gdb::tracepoint;
-use super::Random;
+use super::{gdb, Random};
 use crate::c::{Range, Selection};
 
 /// A right selection of 0 to 8 ranges, which may touch or overlap. What stands beyond the count is of any sort.
@@ -15,6 +14,15 @@ pub fn right(random: &mut Random) -> Selection {
         }
     }
     Selection { ranges, count, keep: random.pick(&[0, 0, 1, 1, 2, 255]) }
+}
+
+/// A number that a range may name: also 0, which no frame has.
+fn tracepoint(random: &mut Random) -> u16 {
+    if random.one_in(10) {
+        0
+    } else {
+        gdb::tracepoint(random)
+    }
 }
 
 fn any_range(random: &mut Random) -> Range {

@@ -48,17 +48,19 @@ impl Checked<'_> {
     }
 }
 
-/// The opening and every selected frame; the answer is their length.
+/// The opening, every selected frame and the end mark, if any; the answer is their length.
 pub fn cut(order: u8, file: &[u8], selection: &Selection, out: &mut [u8]) -> Result<usize, Refusal> {
     let selection = selection.check()?;
     let trace = Trace::read(order, file)?;
     let selected = || trace.frames().filter(|frame| selection.selects(frame.tracepoint)).map(Frame::whole);
-    let length = trace.opening().len() + selected().map(|part| part.length).sum::<usize>();
+    let selected_length = selected().map(|part| part.length).sum::<usize>();
+    let length = trace.opening().len() + selected_length + trace.mark().len();
     let out = out.get_mut(..length).ok_or(Refusal::NoRoom)?;
     let mut out = append(out, trace.opening());
     for Part { place, length } in selected() {
         out = append(out, &file[place..place + length]);
     }
+    append(out, trace.mark());
     Ok(length)
 }
 
@@ -69,13 +71,15 @@ fn append<'o>(out: &'o mut [u8], bytes: &[u8]) -> &'o mut [u8] {
     rest
 }
 
-/// The common opening, the first trace's frames, then the second's; the answer is their length.
+/// The common opening, the first trace's frames, the second's, then the end mark if either has it; the answer is their
+/// length.
 pub fn join(order: u8, first: &[u8], second: &[u8], out: &mut [u8]) -> Result<usize, Refusal> {
     let pair = Pair::read(order, first, second)?;
     let length = pair.length();
-    let out = out.get_mut(..length).ok_or(Refusal::NoRoom)?;
-    let out = append(out, first);
-    append(out, pair.second_frames());
+    let mut out = out.get_mut(..length).ok_or(Refusal::NoRoom)?;
+    for piece in pair.pieces() {
+        out = append(out, piece);
+    }
     Ok(length)
 }
 
@@ -105,13 +109,16 @@ impl<'a> Pair<'a> {
         Ok(pair)
     }
 
-    fn second_frames(&self) -> &'a [u8] {
-        &self.second.file()[self.second.opening().len()..]
+    /// What the join is made of, in order.
+    fn pieces(&self) -> [&'a [u8]; 4] {
+        let Pair { first, second } = self;
+        let mark = if first.is_marked() { first.mark() } else { second.mark() };
+        [first.opening(), first.frame_bytes(), second.frame_bytes(), mark]
     }
 
     /// The length of the join.
     fn length(&self) -> usize {
-        self.first.file().len() + self.second_frames().len()
+        self.pieces().iter().map(|piece| piece.len()).sum()
     }
 
     /// The trace that holds frame n of the pair, and the frame's number there.

@@ -123,6 +123,8 @@ pub struct Trace<'a> {
     order: Order,
     opening: Opening,
     frame_count: usize,
+    /// Where the last frame ends; what is left of the file is nothing or the end mark.
+    frames_end: usize,
 }
 
 impl<'a> Trace<'a> {
@@ -133,20 +135,23 @@ impl<'a> Trace<'a> {
             return Err(Refusal::TooLong);
         }
         let opening = Opening::read(file)?;
-        let mut trace = Trace { file, order, opening, frame_count: 0 };
-        trace.frame_count = trace.check_frames()?;
+        let mut trace = Trace { file, order, opening, frame_count: 0, frames_end: opening.length };
+        (trace.frame_count, trace.frames_end) = trace.check_frames()?;
         Ok(trace)
     }
 
-    fn check_frames(&self) -> Result<usize, Refusal> {
-        let mut count = 0;
+    /// How many frames there are, and where the last one ends.
+    fn check_frames(&self) -> Result<(usize, usize), Refusal> {
+        let (mut count, mut end) = (0, self.opening.length);
         for frame in self.walk_frames() {
-            for block in self.walk_blocks(frame?) {
+            let frame = frame?;
+            for block in self.walk_blocks(frame) {
                 block?;
             }
             count += 1;
+            end = frame.data.end();
         }
-        Ok(count)
+        Ok((count, end))
     }
 
     fn walk_frames(&self) -> Frames<'a> {
@@ -159,13 +164,23 @@ impl<'a> Trace<'a> {
         Blocks { order: self.order, register_size: self.opening.register_size, rest, end }
     }
 
-    pub fn file(&self) -> &'a [u8] {
-        self.file
-    }
-
     /// Head and description, with the closing empty line.
     pub fn opening(&self) -> &'a [u8] {
         &self.file[..self.opening.length]
+    }
+
+    /// Every frame's head and data, one after the other.
+    pub fn frame_bytes(&self) -> &'a [u8] {
+        &self.file[self.opening.length..self.frames_end]
+    }
+
+    /// The bytes of the end mark, none where the trace has no mark.
+    pub fn mark(&self) -> &'a [u8] {
+        &self.file[self.frames_end..]
+    }
+
+    pub fn is_marked(&self) -> bool {
+        !self.mark().is_empty()
     }
 
     pub fn frame_count(&self) -> usize {
@@ -245,7 +260,7 @@ impl<'a> Trace<'a> {
     }
 }
 
-/// The frames from a place on, up to the first whose head or data does not fit.
+/// The frames from a place on, up to the end mark, the file's end or the first fault.
 struct Frames<'a> {
     file: &'a [u8],
     order: Order,
@@ -270,8 +285,12 @@ impl Iterator for Frames<'_> {
     type Item = Result<Frame, Refusal>;
 
     fn next(&mut self) -> Option<Self::Item> {
-        let rest = &self.file[self.place..];
-        (!rest.is_empty()).then(|| self.step(rest))
+        match &self.file[self.place..] {
+            [] | [0, 0, 0, 0] => None,
+            // No frame has tracepoint number 0: it begins the end mark, and that is four bytes up to the file's end.
+            [0, 0, ..] => Some(Err(Refusal::BadMark)),
+            rest => Some(self.step(rest)),
+        }
     }
 }
 

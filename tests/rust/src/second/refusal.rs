@@ -21,4 +21,10 @@ pub enum Refusal {
     BadConstant = 15,
     BadRange = 16,
     RangesOverlap = 17,
+    BadMark = 18,
+}
+
+impl Refusal {
+    /// The highest number.
+    pub const LAST: u8 = Refusal::BadMark as u8;
 }
