@@ -12,8 +12,6 @@
 
 enum { FRAME_HEAD = 6, BLOCK = 776, V0 = 264, V0_SIZE = 16 };
 
-static const tfk_settings LITTLE = {0};
-
 /* A library of another interface would take these structs for others. */
 static void demand_fit(void)
 {
@@ -51,9 +49,9 @@ static uint8_t *contents(const char *name, size_t *length)
 }
 
 /* v0 of frame 0. */
-static void print_v0(const uint8_t *trace, size_t length)
+static void print_v0(tfk_settings settings, const uint8_t *trace, size_t length)
 {
-    tfk_place registers = tfk_registers_place(LITTLE, trace, length, 0);
+    tfk_place registers = tfk_registers_place(settings, trace, length, 0);
     if (registers.refusal == TFK_NOT_FOUND) {
         printf(" no registers\n");
     } else if (registers.length != BLOCK) {
@@ -70,7 +68,8 @@ static void print_v0(const uint8_t *trace, size_t length)
  * A question reads the whole file that it is given, so asking the file about every frame takes the square of its
  * length. The opening and one frame are a trace too, in which the frame is frame 0.
  */
-static void print_frames(const uint8_t *file, size_t length, const tfk_frame *frames, size_t count)
+static void print_frames(tfk_settings settings, const uint8_t *file, size_t length, const tfk_frame *frames,
+                         size_t count)
 {
     uint8_t *alone = room_for(length);
     size_t opening = count > 0 ? frames[0].place - FRAME_HEAD : length;
@@ -79,7 +78,7 @@ static void print_frames(const uint8_t *file, size_t length, const tfk_frame *fr
         size_t size = FRAME_HEAD + frames[n].size;
         memcpy(alone + opening, file + frames[n].place - FRAME_HEAD, size);
         printf("frame %zu, tracepoint %u:", n, (unsigned)frames[n].tracepoint);
-        print_v0(alone, opening + size);
+        print_v0(settings, alone, opening + size);
     }
     free(alone);
 }
@@ -93,11 +92,12 @@ int main(int argc, char **argv)
     demand_fit();
     size_t length;
     uint8_t *file = contents(argv[1], &length);
-    tfk_count count = tfk_frame_count(LITTLE, file, length);
+    tfk_settings little = tfk_default_settings(0);
+    tfk_count count = tfk_frame_count(little, file, length);
     tfk_frame *frames = room_for(count.count * sizeof *frames);
     if (count.refusal == 0) {
-        tfk_frame_table(LITTLE, file, length, frames, count.count);
-        print_frames(file, length, frames, count.count);
+        tfk_frame_table(little, file, length, frames, count.count);
+        print_frames(little, file, length, frames, count.count);
     } else {
         fprintf(stderr, "refused %d\n", count.refusal);
     }

@@ -21,7 +21,7 @@ extern "C" {
 #endif
 
 /* The number of this interface. It changes with every struct, call and number of this header. */
-#define TFK_INTERFACE 2
+#define TFK_INTERFACE 3
 
 /* The number of the library's interface. */
 uint64_t tfk_interface(void);
@@ -32,10 +32,10 @@ uint64_t tfk_interface(void);
 /* The refusals. */
 enum {
     TFK_TOO_LONG = 1,            /* a file, or a join's result, is longer than 67,108,864 bytes */
-    TFK_BAD_ARGUMENT = 2,        /* byte order not 0 or 1; a range with low above high; more than 8 ranges */
+    TFK_BAD_ARGUMENT = 2,        /* byte order not 0 or 1; base not 10 or 16; a range with low above high; more than 8 ranges */
     TFK_BAD_HEAD = 3,            /* the head differs or is cut short */
     TFK_NO_EMPTY_LINE = 4,       /* the description has no empty line */
-    TFK_BAD_LINE = 5,            /* an ended `R ` line breaks its form, or a second `R ` or `status ` line */
+    TFK_BAD_LINE = 5,            /* an ended `R ` line breaks its form in the chosen base, or a second `R ` or `status ` line */
     TFK_SHORT_HEAD = 6,          /* 1 to 5 bytes remain where a frame head should start, and do not begin with two bytes of 0 */
     TFK_DATA_PAST_FILE = 7,      /* a frame's data runs past the file */
     TFK_BAD_LETTER = 8,          /* a block letter other than R, M, V */
@@ -55,10 +55,23 @@ enum {
 
 /* Behind its frames a GDB trace may have the end mark, four bytes of 0 up to the file's end. It is no frame and no part of one; no frame has the tracepoint number 0. */
 
-/* How a GDB trace is read. Its byte order is not recorded in the file: 0 little, 1 big, any other is refused with 2. */
+/*
+ * How a GDB trace is read; the file records neither. `order` is the byte order of its numbers, 0 little or 1 big; `base` is that of
+ * the number in its R line, 16 or 10. Any other order or base is refused with 2, by every call that takes the settings and whatever
+ * the file is. So a zeroed struct, whose base is 0, is refused with 2: take the ready value below.
+ *
+ * The R line says how many bytes a register block has. It is `R ` and then digits alone: no prefix, sign or blank.
+ *   base 16: one to four digits, letters in either case. Debuggers write it so: `R 308` for 776.
+ *   base 10: one to five digits, and a value of at most 65,535, as the published page has it: `R 776`.
+ * Leading zeros count as digits. A line of another form is refused with 5.
+ */
 typedef struct {
     uint8_t order;
+    uint8_t base;
 } tfk_settings;
+
+/* The ready value: base 16, and this byte order, which is not looked at yet. For base 10 set its `base` to 10. */
+tfk_settings tfk_default_settings(uint8_t order);
 
 typedef struct {
     uint8_t refusal;

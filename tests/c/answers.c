@@ -1,5 +1,10 @@
 #include "answers.h"
 
+int is_settings(tfk_settings answer, uint8_t order, uint8_t base)
+{
+    return answer.order == order && answer.base == base;
+}
+
 int is_count(tfk_count answer, uint8_t refusal, size_t count)
 {
     return answer.refusal == refusal && answer.count == count;

@@ -4,6 +4,7 @@
 
 #include "tufakpeni.h"
 
+int is_settings(tfk_settings answer, uint8_t order, uint8_t base);
 int is_count(tfk_count answer, uint8_t refusal, size_t count);
 int is_mark(tfk_mark answer, uint8_t refusal, uint8_t marked);
 int is_place(tfk_place answer, uint8_t refusal, size_t place, size_t length);

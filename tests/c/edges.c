@@ -9,6 +9,7 @@ int main(void)
 {
     lengths();
     answers();
+    bases();
     tables();
     marks();
     limits();

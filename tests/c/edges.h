@@ -4,6 +4,7 @@
 
 void lengths(void);   /* every length of small traces, and wrong arguments */
 void answers(void);   /* what the small traces answer */
+void bases(void);     /* which bases there are, and what an R line says in each */
 void tables(void);    /* the frame table into records that hold a pattern */
 void marks(void);     /* cuts, joins and pairs of traces with the end mark and without */
 void limits(void);    /* the longest file and one byte more */

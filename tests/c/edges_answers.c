@@ -1,7 +1,8 @@
-/* What the small traces answer, in both byte orders: document 01's cases and their neighbours. */
+/* What the small traces answer, in both byte orders and bases: document 01's cases and their neighbours. */
 #include "answers.h"
 #include "check.h"
 #include "edges.h"
+#include "settings.h"
 #include "traces.h"
 
 #include <stdlib.h>
@@ -16,10 +17,10 @@ typedef struct {
 
 #define ASKED(trace) (trace).settings, (trace).file, (trace).length
 
-static asked opened(size_t i, uint8_t order)
+static asked opened(size_t i, tfk_settings settings)
 {
-    small_trace trace = small_trace_of(i, order);
-    asked open = {{order}, exactly(trace.file.bytes, trace.file.length), trace.file.length};
+    small_trace trace = small_trace_of(i, settings.order);
+    asked open = {settings, exactly(trace.file.bytes, trace.file.length), trace.file.length};
     begin(trace.name);
     return open;
 }
@@ -30,9 +31,9 @@ static void closed(asked trace)
     end();
 }
 
-static void two_registers(uint8_t order)
+static void two_registers(tfk_settings settings)
 {
-    asked trace = opened(TWO_REGISTERS, order);
+    asked trace = opened(TWO_REGISTERS, settings);
     tfk_frame record;
     CHECK(is_count(tfk_frame_table(ASKED(trace), &record, 1), 0, 1) && is_frame(record, 1, 19, 3));
     CHECK(is_line(tfk_line_place(ASKED(trace), 0), 0, TFK_LINE_R, 8, 3));
@@ -45,9 +46,9 @@ static void two_registers(uint8_t order)
     closed(trace);
 }
 
-static void memory_at_the_top(uint8_t order)
+static void memory_at_the_top(tfk_settings settings)
 {
-    asked trace = opened(MEMORY_AT_THE_TOP, order);
+    asked trace = opened(MEMORY_AT_THE_TOP, settings);
     CHECK(is_memory(tfk_block_record(ASKED(trace), 0, 0), 15, UINT64_MAX, 2));
     CHECK(is_place(tfk_memory_place(ASKED(trace), 0, UINT64_MAX), 0, 26, 2));
     CHECK(is_place(tfk_memory_place(ASKED(trace), 0, 0), 0, 27, 1));
@@ -56,9 +57,9 @@ static void memory_at_the_top(uint8_t order)
     closed(trace);
 }
 
-static void a_variable(uint8_t order)
+static void a_variable(tfk_settings settings)
 {
-    asked trace = opened(A_VARIABLE, order);
+    asked trace = opened(A_VARIABLE, settings);
     CHECK(is_variable(tfk_block_record(ASKED(trace), 0, 0), 15, 1, -1));
     CHECK(is_value(tfk_variable(ASKED(trace), 0, 1), 0, -1));
     CHECK(is_value(tfk_variable(ASKED(trace), 0, 0), TFK_NOT_FOUND, 0));
@@ -66,10 +67,10 @@ static void a_variable(uint8_t order)
     closed(trace);
 }
 
-static void lines_and_a_cut(uint8_t order)
+static void lines_and_a_cut(tfk_settings settings)
 {
     static const tfk_selection ONE = {{{1, 1}}, 1, 1};
-    asked trace = opened(NUMBERS_1_2_1, order);
+    asked trace = opened(NUMBERS_1_2_1, settings);
     CHECK(is_line(tfk_line_place(ASKED(trace), 0), 0, TFK_LINE_TP, 8, 4));
     CHECK(is_line(tfk_line_place(ASKED(trace), 1), 0, TFK_LINE_STATUS, 13, 8));
     CHECK(is_line(tfk_line_place(ASKED(trace), 2), 0, TFK_LINE_TSV, 22, 5));
@@ -83,9 +84,9 @@ static void lines_and_a_cut(uint8_t order)
     closed(trace);
 }
 
-static void blocks_of_every_kind(uint8_t order)
+static void blocks_of_every_kind(tfk_settings settings)
 {
-    asked trace = opened(EVERY_BLOCK, order);
+    asked trace = opened(EVERY_BLOCK, settings);
     tfk_frame records[2];
     CHECK(is_count(tfk_frame_table(ASKED(trace), records, 2), 0, 2));
     CHECK(is_frame(records[0], 65535, 19, 40) && is_frame(records[1], 7, 65, 8));
@@ -102,18 +103,18 @@ static void blocks_of_every_kind(uint8_t order)
     closed(trace);
 }
 
-static void registers_of_no_size(uint8_t order)
+static void registers_of_no_size(tfk_settings settings)
 {
-    asked trace = opened(NO_REGISTER_BYTES, order);
+    asked trace = opened(NO_REGISTER_BYTES, settings);
     CHECK(is_place(tfk_registers_place(ASKED(trace), 0), 0, 20, 0));
     CHECK(is_registers(tfk_block_record(ASKED(trace), 0, 1), 20));
     closed(trace);
 }
 
 /* The last frame of a marked trace ends where the mark starts, and so does its memory. */
-static void before_the_mark(uint8_t order)
+static void before_the_mark(tfk_settings settings)
 {
-    asked trace = opened(MARK_AFTER_ZEROS, order);
+    asked trace = opened(MARK_AFTER_ZEROS, settings);
     tfk_frame records[2];
     CHECK(is_mark(tfk_end_mark(ASKED(trace)), 0, 1));
     CHECK(is_count(tfk_frame_table(ASKED(trace), records, 2), 0, 2));
@@ -133,19 +134,19 @@ static void before_the_mark(uint8_t order)
 }
 
 /* A marked trace without frames has its lines. */
-static void lines_before_the_mark(uint8_t order)
+static void lines_before_the_mark(tfk_settings settings)
 {
-    asked trace = opened(MARK_ALONE, order);
+    asked trace = opened(MARK_ALONE, settings);
     CHECK(is_line(tfk_line_place(ASKED(trace), 1), 0, TFK_LINE_TP, 12, 4));
     CHECK(is_line(tfk_line_place(ASKED(trace), 2), TFK_NOT_FOUND, 0, 0, 0));
     closed(trace);
 }
 
 /* Two traces whose openings differ are refused with 13, whatever else is asked. */
-static void different_openings(uint8_t order)
+static void different_openings(tfk_settings settings)
 {
-    asked first = opened(TWO_REGISTERS, order);
-    asked second = opened(MEMORY_AT_THE_TOP, order);
+    asked first = opened(TWO_REGISTERS, settings);
+    asked second = opened(MEMORY_AT_THE_TOP, settings);
     uint8_t *out = patterned(100);
     begin("different openings");
     CHECK(is_length(tfk_join(ASKED(first), second.file, second.length, out, 100), TFK_OPENINGS_DIFFER, 0));
@@ -158,17 +159,20 @@ static void different_openings(uint8_t order)
     closed(first);
 }
 
+static void answers_in(tfk_settings settings)
+{
+    two_registers(settings);
+    memory_at_the_top(settings);
+    a_variable(settings);
+    lines_and_a_cut(settings);
+    blocks_of_every_kind(settings);
+    registers_of_no_size(settings);
+    before_the_mark(settings);
+    lines_before_the_mark(settings);
+    different_openings(settings);
+}
+
 void answers(void)
 {
-    for (uint8_t order = 0; order <= 1; order++) {
-        two_registers(order);
-        memory_at_the_top(order);
-        a_variable(order);
-        lines_and_a_cut(order);
-        blocks_of_every_kind(order);
-        registers_of_no_size(order);
-        before_the_mark(order);
-        lines_before_the_mark(order);
-        different_openings(order);
-    }
+    with_all_settings(answers_in);
 }

@@ -1,15 +1,15 @@
-/* Every small trace cut short at every length, in both byte orders; wrong byte orders; wrong selections. */
+/* Every small trace cut short at every length, in both byte orders and bases; wrong byte orders; wrong selections. */
 #include "calls.h"
 #include "answers.h"
 #include "check.h"
 #include "edges.h"
+#include "settings.h"
 #include "traces.h"
 
 #include <stdlib.h>
 
-static void at_every_length(const small_trace *trace)
+static void at_every_length(const small_trace *trace, tfk_settings settings)
 {
-    tfk_settings settings = {trace->file.order};
     begin(trace->name);
     for (size_t length = 0; length <= trace->file.length; length++) {
         step expected = step_at(trace, length);
@@ -31,11 +31,11 @@ static void wrong_orders(void)
     small_trace trace = small_trace_of(TWO_REGISTERS, 0);
     begin("wrong byte orders");
     for (unsigned order = 2; order <= UINT8_MAX; order++) {
-        tfk_settings settings = {(uint8_t)order};
         size_t length = order % (trace.file.length + 1);
         uint8_t *file = exactly(trace.file.bytes, length);
         about = order;
-        all_refuse(settings, file, length, TFK_BAD_ARGUMENT);
+        all_refuse(settings_of((uint8_t)order, TEN), file, length, TFK_BAD_ARGUMENT);
+        all_refuse(settings_of((uint8_t)order, SIXTEEN), file, length, TFK_BAD_ARGUMENT);
         free(file);
     }
     end();
@@ -43,9 +43,8 @@ static void wrong_orders(void)
 
 static void cut_answers(const uint8_t *file, size_t length, tfk_selection selection, uint8_t refusal, size_t kept)
 {
-    tfk_settings little = {0};
     uint8_t *out = patterned(length);
-    CHECK(is_length(tfk_cut(little, file, length, selection, out, length), refusal, kept));
+    CHECK(is_length(tfk_cut(settings_of(0, SIXTEEN), file, length, selection, out, length), refusal, kept));
     CHECK(all_pattern(out + kept, length - kept));
     free(out);
 }
@@ -90,14 +89,17 @@ static void opposites(void)
     end();
 }
 
-void lengths(void)
+static void every_trace(tfk_settings settings)
 {
     for (size_t i = 0; i < small_traces(); i++) {
-        for (uint8_t order = 0; order <= 1; order++) {
-            small_trace trace = small_trace_of(i, order);
-            at_every_length(&trace);
-        }
+        small_trace trace = small_trace_of(i, settings.order);
+        at_every_length(&trace, settings);
     }
+}
+
+void lengths(void)
+{
+    with_all_settings(every_trace);
     wrong_orders();
     selections();
     opposites();

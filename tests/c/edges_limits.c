@@ -3,6 +3,7 @@
 #include "calls.h"
 #include "check.h"
 #include "edges.h"
+#include "settings.h"
 #include "traces.h"
 
 #include <stdio.h>
@@ -11,7 +12,7 @@
 
 enum { OPENING = sizeof(BARE) - 1, FRAME_HEAD = 6, MEMORY_HEAD = 11, LARGEST_FRAME = FRAME_HEAD + MEMORY_HEAD + 65535 };
 
-static const tfk_settings LITTLE = {0};
+#define LITTLE settings_of(0, SIXTEEN)
 
 static uint8_t *zeros(size_t length)
 {
@@ -70,10 +71,11 @@ static void one_byte_more(const char *name, size_t mark)
 {
     size_t frames;
     uint8_t *file = long_trace(LIMIT + 1, mark, &frames);
-    tfk_settings wrong = {2};
     begin(name);
     all_refuse(LITTLE, file, LIMIT + 1, TFK_TOO_LONG);
-    all_refuse(wrong, file, LIMIT + 1, TFK_BAD_ARGUMENT);
+    all_refuse(settings_of(0, TEN), file, LIMIT + 1, TFK_TOO_LONG);
+    all_refuse(settings_of(2, SIXTEEN), file, LIMIT + 1, TFK_BAD_ARGUMENT);
+    all_refuse(settings_of(0, 8), file, LIMIT + 1, TFK_BAD_ARGUMENT);
     free(file);
     end();
 }

@@ -3,6 +3,7 @@
 #include "calls.h"
 #include "check.h"
 #include "edges.h"
+#include "settings.h"
 #include "traces.h"
 
 #include <stdlib.h>
@@ -49,7 +50,7 @@ static int holds(const uint8_t *out, size_t room, const made *expected)
 /* A cut that gives exactly this file: with room that fits and that is longer; with one byte less it is refused. */
 static void cut_gives(const made *given, tfk_selection selection, made expected)
 {
-    tfk_settings settings = {given->order};
+    tfk_settings settings = settings_of(given->order, SIXTEEN);
     uint8_t *file = exactly(given->bytes, given->length);
     for (size_t room = expected.length; room <= expected.length + 5; room += 5) {
         uint8_t *out = patterned(room);
@@ -95,8 +96,8 @@ static void joined(uint8_t order, uint16_t first_frames, uint16_t second_frames,
     made first = numbered(order, 1, first_frames, first_marked);
     made second = numbered(order, (uint16_t)(first_frames + 1), frames, second_marked);
     made expected = numbered(order, 1, frames, first_marked || second_marked);
-    both pair = {{order}, exactly(first.bytes, first.length), first.length, exactly(second.bytes, second.length),
-                 second.length};
+    both pair = {settings_of(order, SIXTEEN), exactly(first.bytes, first.length), first.length,
+                 exactly(second.bytes, second.length), second.length};
     for (size_t room = expected.length; room <= expected.length + 5; room += 5) {
         uint8_t *out = patterned(room);
         CHECK(is_length(tfk_join(ASKED(pair), out, room), 0, expected.length));

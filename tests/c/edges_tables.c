@@ -5,6 +5,7 @@
 #include "answers.h"
 #include "check.h"
 #include "edges.h"
+#include "settings.h"
 #include "traces.h"
 
 #include <stdlib.h>
@@ -77,7 +78,7 @@ static int same_frame(tfk_frame one, tfk_frame other)
 static void answers_with(uint8_t order, const uint8_t *bytes, size_t length, uint8_t refusal, size_t frames,
                          const tfk_frame *expected)
 {
-    tfk_settings settings = {order};
+    tfk_settings settings = settings_of(order, SIXTEEN);
     uint8_t *file = exactly(bytes, length);
     tfk_frame *records = patterned(RECORDS * sizeof *records);
     for (size_t k = 0; k < RECORDS; k++) {

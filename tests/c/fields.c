@@ -5,12 +5,25 @@
 #include "answers.h"
 #include "check.h"
 #include "dats.h"
+#include "settings.h"
 #include "traces.h"
 
 #include <stdlib.h>
 
-#define LITTLE (tfk_settings){.order = 0}
+#define LITTLE settings_of(0, SIXTEEN)
 #define ASKED(trace) LITTLE, (trace).file.bytes, (trace).file.length
+
+/* The settings that the library makes, and those that it is given: the same value is right in one field only. */
+static void set(void)
+{
+    made file = {0, 0, {0}};
+    PUT(&file, BARE);
+    begin("settings");
+    CHECK(is_settings(tfk_default_settings(1), 1, SIXTEEN));
+    CHECK(is_count(tfk_frame_count(settings_of(1, SIXTEEN), file.bytes, file.length), 0, 0));
+    CHECK(is_count(tfk_frame_count(settings_of(SIXTEEN, 1), file.bytes, file.length), TFK_BAD_ARGUMENT, 0));
+    end();
+}
 
 /* Each question about a trace with blocks of every kind; the bytes of both its frames differ in place and in length.
    The end mark is asked for where it is. */
@@ -37,7 +50,7 @@ static void refused(void)
     small_trace trace = small_trace_of(EVERY_BLOCK, 0);
     uint8_t *bytes = trace.file.bytes;
     size_t length = trace.file.length;
-    tfk_settings third = {.order = 2};
+    tfk_settings third = settings_of(2, SIXTEEN);
     begin("the refusals of a trace");
     CHECK(is_count(tfk_frame_count(third, bytes, length), TFK_BAD_ARGUMENT, 0));
     CHECK(is_mark(tfk_end_mark(third, bytes, length), TFK_BAD_ARGUMENT, 0));
@@ -124,6 +137,7 @@ static void summed(void)
 
 int main(void)
 {
+    set();
     answered();
     refused();
     selected();

@@ -3,7 +3,6 @@
 
 int main(void)
 {
-    tfk_settings little = {0};
     uint8_t none = 0;
-    return TFK_FITS() && tfk_frame_count(little, &none, 0).refusal == TFK_BAD_HEAD ? 0 : 1;
+    return TFK_FITS() && tfk_frame_count(tfk_default_settings(0), &none, 0).refusal == TFK_BAD_HEAD ? 0 : 1;
 }

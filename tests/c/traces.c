@@ -87,13 +87,13 @@ static const struct {
     {"a variable past the data", "", 12, "V\1\2\3\4\5\6\7\10\1\2\3", TFK_BLOCK_PAST_DATA},
 };
 
-/* Traces with a line that is refused where its end stands, from the length `from` on. */
+/* Traces with a line that is refused in either base, where its end stands, from the length `from` on. */
 static const struct {
     const char *name;
     const char *lines;
     size_t from;
 } REFUSED_LINES[] = {
-    {"a register size of 65,536", "tp 1\nR 65536\n", 21},
+    {"a register size of 65,536 in base 10, of five digits in base 16", "tp 1\nR 65536\n", 21},
     {"two status lines", "status 1\nR 1\nstatus 1\n", 30},
     {"two register sizes", "R 1\nR 1\ntp 1\n", 16},
     {"a register size of six digits", "R 000001\n", 17},

@@ -1,4 +1,4 @@
-/* The small traces that are tried at every length. */
+/* The small traces that are tried at every length. Each reads alike in base 10 and in base 16. */
 #ifndef TRACES_H
 #define TRACES_H
 

@@ -28,7 +28,7 @@ macro_rules! described {
 
 fn declared() -> Vec<String> {
     described! {
-        tfk_settings Settings { order }
+        tfk_settings Settings { order, base }
         tfk_count Count { refusal, count }
         tfk_mark Mark { refusal, marked }
         tfk_place Place { refusal, place, length }

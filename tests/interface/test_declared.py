@@ -23,9 +23,9 @@ class Declared(unittest.TestCase):
         self.assertEqual(declared(TESTS), (self.header.structs, self.header.calls))
 
     def test_the_rust_wrapper(self):
-        """It has no use for one of the calls."""
+        """It has no use for two of the calls."""
         structs, calls = declared(WRAPPER)
-        unused = {'tfk_frame_place': self.header.calls['tfk_frame_place']}
+        unused = {name: self.header.calls[name] for name in ('tfk_frame_place', 'tfk_default_settings')}
         self.assertEqual((structs, {**calls, **unused}), (self.header.structs, self.header.calls))
 
     def test_the_rust_wrapper_asks_before_every_call(self):

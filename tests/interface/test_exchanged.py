@@ -13,7 +13,7 @@ from library import ARCHIVE
 
 TESTS = header.ROOT / 'tests/c'
 # What depends on the header's structs, as one source, and what does not.
-DEPENDENT = ''.join(f'#include "{name}.c"\n' for name in ('fields', 'answers', 'dats'))
+DEPENDENT = ''.join(f'#include "{name}.c"\n' for name in ('fields', 'settings', 'answers', 'dats'))
 OTHERS = [TESTS / f'{name}.c' for name in ('traces', 'check')]
 SECONDS = 60
 

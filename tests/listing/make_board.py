@@ -7,7 +7,7 @@ import struct
 import sys
 
 LINES = [
-    'R 776',
+    'R 308',
     'status 0;tstop::0;tframes:6;tcreated:6;tfree:4fe200;tsize:500000;circular:0',
     'tsv 1:0:1:74726163655f74696d657374616d70',
     'tsv 2:0:0:6c6f6164',

@@ -14,4 +14,4 @@ FRAMES = [
 ]
 
 if __name__ == '__main__':
-    sys.stdout.buffer.write(LITTLE.trace(['R 16', 'tp T1:4d:E:0:0'], *FRAMES) + MARK)
+    sys.stdout.buffer.write(LITTLE.trace(['R 10', 'tp T1:4d:E:0:0'], *FRAMES) + MARK)

@@ -31,4 +31,4 @@ FRAMES = [
 ]
 
 if __name__ == '__main__':
-    sys.stdout.buffer.write(LITTLE.trace(['R 776', 'R8', 'tp T1:4d:E:0:0'], *FRAMES))
+    sys.stdout.buffer.write(LITTLE.trace(['R 308', 'R8', 'tp T1:4d:E:0:0'], *FRAMES))

@@ -5,7 +5,7 @@ import sys
 import tempfile
 import unittest
 
-from build import BARE, BIG, LIMIT, MARK, dat
+from build import BARE, BIG, LIMIT, LITTLE, MARK, dat
 from cases import Case
 from repository import EXPECTED, MODULE, ROOT
 
@@ -36,9 +36,10 @@ class Command(Case):
         self.shows('board.txt', 'samples/board.tf', '--lines', '--frames')
 
     def test_parts(self):
-        lines, frames = (EXPECTED / 'board.txt').read_text().split('\nframes ')
-        self.assertEqual(command('samples/board.tf', '--lines').stdout, lines + '\n')
-        self.assertEqual(command('samples/board.tf', '--frames').stdout, 'frames ' + frames)
+        size, rest = (EXPECTED / 'board.txt').read_text().split('\n', 1)
+        lines, frames = rest.split('\nframes ')
+        self.assertEqual(command('samples/board.tf', '--lines').stdout, f'{size}\n{lines}\n')
+        self.assertEqual(command('samples/board.tf', '--frames').stdout, f'{size}\nframes {frames}')
 
     def test_blocks(self):
         self.shows('board-blocks.txt', 'samples/board.tf', '--blocks', '--variables')
@@ -49,12 +50,63 @@ class Command(Case):
 
     def test_one_frame(self):
         ended = command('samples/board.tf', '--frame', '4')
-        self.assertEqual(ended.stdout, 'frames 6, no end mark\n  frame 4: tracepoint 3, 15 bytes at 2713\n')
+        self.assertEqual(ended.stdout, 'register blocks of 776 bytes: `R 308` in base 16\n'
+                                       'frames 6, no end mark\n  frame 4: tracepoint 3, 15 bytes at 2713\n')
 
     def test_the_end_mark(self):
         self.shows('marked.txt', 'samples/marked.tf', '--frames')
-        self.assertEqual(command(self.made(BARE + MARK)).stdout, 'lines 0\nframes 0, then the end mark\n')
-        self.assertEqual(command(self.made(BARE)).stdout, 'lines 0\nframes 0, no end mark\n')
+        for mark, said in ((MARK, 'then the end mark'), (b'', 'no end mark')):
+            self.assertEqual(command(self.made(BARE + mark)).stdout,
+                             f'no R line, so no register blocks\nlines 0\nframes 0, {said}\n')
+
+    def test_a_trace_that_gdb_saved(self):
+        self.shows('gdb-frame-2.txt', 'samples/gdb.tf', '--blocks', '--variables', '--frame', '2')
+
+    def test_base(self):
+        """The register size is shown with its base, whether or not there is such a block."""
+        for line, words, shown in (('R 308', (), '776 bytes: `R 308` in base 16'),
+                                   ('R 308', ('--base', '16'), '776 bytes: `R 308` in base 16'),
+                                   ('R 308', ('--base', '10'), '308 bytes: `R 308` in base 10'),
+                                   ('R 65535', ('--base', '10'), '65535 bytes: `R 65535` in base 10'),
+                                   ('R FfFf', (), '65535 bytes: `R FfFf` in base 16'),
+                                   ('R 0', (), '0 bytes: `R 0` in base 16')):
+            ended = command(self.made(LITTLE.trace(['tp T1', line], LITTLE.frame(1))), '--frames', *words)
+            self.assertEqual(ended.stdout.splitlines()[0], 'register blocks of ' + shown, ended.stderr)
+
+    def test_a_trace_in_decimal(self):
+        """It is read with its base said, and refused without, in words that say so."""
+        frame = LITTLE.frame(1, LITTLE.registers(bytes(776)), LITTLE.variable(1, 2))
+        file = self.made(LITTLE.trace(['R 776'], frame))
+        self.assertEqual(command(file, '--base', '10', '--blocks').stdout.splitlines(), [
+            'register blocks of 776 bytes: `R 776` in base 10', 'frames 1, no end mark',
+            '  frame 0: tracepoint 1, 790 bytes at 21', '    R at 21: 776 bytes', '    V at 798: variable 1 = 2'])
+        ended = command(file, '--blocks')
+        self.assertEqual((ended.stdout, ended.stderr, ended.returncode), (
+            '', "refused 9: a block runs past its frame's data\n"
+                'base 16 was tried for the R line; to try the other: --base 10\n', 1))
+
+    def test_the_base_in_refusals(self):
+        """It is named where it may be the reason: 5, 8 and 9, of a trace with an R line."""
+        tried = 'base {} was tried for the R line; to try the other: --base {}'
+        for lines, data, words, number, base in (
+                (['R 9c4'], b'', ['--base', '10'], 5, tried.format(10, 16)),
+                (['R 65535'], b'', [], 5, tried.format(16, 10)),
+                (['R 308'], LITTLE.registers(bytes(776)), ['--base', '10'], 8, tried.format(10, 16)),
+                (['R 20'], LITTLE.registers(bytes(20)), [], 9, tried.format(16, 10)),
+                (['status a', 'status b'], b'', [], 5, None),
+                (['tp R x'], b'X', [], 8, None),
+                (['tp R x'], b'M', [], 9, None),
+                ([], LITTLE.registers(b''), [], 10, None)):
+            ended = command(self.made(LITTLE.trace(lines, LITTLE.frame(1, data))), *words)
+            reason, *more = ended.stderr.splitlines()
+            self.assertTrue(reason.startswith(f'refused {number}: '), reason)
+            self.assertEqual((more, ended.stdout, ended.returncode), ([base] if base else [], '', 1))
+
+    def test_no_such_base(self):
+        for base in ('8', '0', '266', '-6', 'ten', ''):
+            ended = command('samples/board.tf', '--base', base)
+            self.assertEqual((ended.stdout, ended.returncode), ('', 2))
+            self.assertIn('argument --base', ended.stderr)
 
     def test_big(self):
         file = self.made(BIG.trace(['tp \\x\t\xff'], BIG.frame(1, BIG.memory(2 ** 64 - 1, bytes(range(17))),
@@ -80,9 +132,10 @@ class Command(Case):
             self.assertEqual((ended.stdout, ended.stderr, ended.returncode), ('', text + '\n', 1))
 
     def test_no_such_frame(self):
-        ended = command('samples/board.tf', '--frame', '6')
-        self.assertEqual((ended.stdout, ended.returncode), ('', 1))
-        self.assertTrue(ended.stderr.startswith('refused 12: '))
+        for words in ([], ['--lines']):
+            ended = command('samples/board.tf', '--frame', '6', *words)
+            self.assertEqual((ended.stdout, ended.returncode), ('', 1))
+            self.assertTrue(ended.stderr.startswith('refused 12: '))
 
     def test_no_such_file(self):
         ended = command('samples/nothing.tf')

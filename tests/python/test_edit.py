@@ -3,7 +3,7 @@ import unittest
 
 from build import BARE, BIG, LITTLE, MARK
 from cases import Case
-from tufakpeni import Pair, Selection, Trace, _library, cut, join, join_into
+from tufakpeni import Pair, Selection, Trace, _library, cut, cut_into, join, join_into
 
 LINES = ['R 2', 'tp T1']
 
@@ -101,6 +101,58 @@ class Joins(Case):
     def test_the_marked_bare_opening_is_no_unit(self):
         file = LITTLE.trace([], LITTLE.frame(1))
         self.assertEqual([join(file, BARE + MARK), join(BARE + MARK, file)], [file + MARK] * 2)
+
+
+class Bases(Case):
+    """Traces with their R line in decimal and in hexadecimal: each call reads them in the base that it is given."""
+
+    def setUp(self):
+        self.frames = [LITTLE.frame(n, LITTLE.registers(bytes(20)), LITTLE.variable(1, n)) for n in (1, 2, 3)]
+
+    def of(self, base, *chosen):
+        return LITTLE.trace(['R 20' if base == 10 else 'R 14'], *(self.frames[i] for i in chosen))
+
+    def test_cut(self):
+        for base in (10, 16):
+            output = bytearray(200)
+            self.assertEqual(cut(self.of(base, 0, 1, 2), Selection([(2, 3)]), base=base), self.of(base, 1, 2))
+            length = cut_into(output, self.of(base, 0, 1, 2), Selection([(2, 3)]), base=base)
+            self.assertEqual(output[:length], self.of(base, 1, 2))
+
+    def test_join(self):
+        for base in (10, 16):
+            output = bytearray(200)
+            self.assertEqual(join(self.of(base, 0), self.of(base, 1, 2), base=base), self.of(base, 0, 1, 2))
+            length = join_into(output, self.of(base, 0), self.of(base, 1, 2), base=base)
+            self.assertEqual(output[:length], self.of(base, 0, 1, 2))
+
+    def test_pair(self):
+        for base in (10, 16):
+            pair = Pair(self.of(base, 0), self.of(base, 1, 2), base=base)
+            self.assertEqual([bytes(pair.frame(n).data) for n in range(3)], [frame[6:] for frame in self.frames])
+            self.assertEqual([pair.variable(n, 1) for n in range(3)], [1, 2, 3])
+
+    def test_the_other_base(self):
+        every, output = Selection([(0, 65535)]), bytearray(200)
+        for base, other in ((10, 16), (16, 10)):
+            file = self.of(base, 0)
+            self.refused(8, cut, file, every, 'little', other)
+            self.refused(8, cut_into, output, file, every, 'little', other)
+            for call in (join, Pair):
+                self.refused(8, call, file, file, 'little', other)
+            self.refused(8, join_into, output, file, file, 'little', other)
+        self.assertEqual(output, bytes(200))
+
+    def test_sixteen_where_nothing_is_said(self):
+        file, every = self.of(16, 0), Selection([(0, 65535)])
+        self.assertEqual((cut(file, every), join(file, self.of(16))), (file, file))
+        self.assertEqual((cut_into(bytearray(200), file, every), join_into(bytearray(200), file, self.of(16))),
+                         (len(file), len(file)))
+        self.assertEqual(Pair(file, file).variable(1, 1), 1)
+
+    def test_the_same_size_in_another_base_is_another_opening(self):
+        self.refused(8, join, self.of(10, 0), self.of(16, 0), 'little', 16)
+        self.refused(13, join, self.of(10), self.of(16), 'little', 16)
 
 
 class Pairs(Case):

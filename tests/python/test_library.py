@@ -1,5 +1,6 @@
 """The module declares what the header declares, and says how to make the library where it is missing."""
 import ctypes
+import inspect
 import os
 import subprocess
 import sys
@@ -7,7 +8,7 @@ import unittest
 
 from cases import Case
 from repository import MODULE
-from tufakpeni import _library
+from tufakpeni import Pair, Trace, _library, cut, cut_into, join, join_into
 
 import header
 import layout
@@ -65,6 +66,17 @@ class Header(Case):
 
     def test_number(self):
         self.assertEqual(_library.INTERFACE, header.read().number)
+
+
+class Defaults(Case):
+    def test_settings(self):
+        """A caller that says nothing of the base has the library's own default."""
+        for order in (0, 1, 255):
+            given = _library.call('tfk_default_settings', order)
+            self.assertEqual((given.order, given.base), (order, 16))
+        for call in (Trace, Pair, cut, cut_into, join, join_into):
+            *_, order, base = inspect.signature(call).parameters.values()
+            self.assertEqual((order.name, order.default, base.name, base.default), ('order', 'little', 'base', 16))
 
 
 class Missing(Case):

@@ -1,4 +1,5 @@
 """Every refusal of the table, carried with its number and its sentence."""
+import itertools
 import pickle
 import re
 import unittest
@@ -9,6 +10,7 @@ from repository import ROOT
 from tufakpeni import Pair, Refusal, Refused, Selection, Trace, TraceDat, cut, cut_into, join, join_into
 
 FRAME = LITTLE.frame(1, LITTLE.variable(1, 2))
+EVERY = Selection([(0, 65535)])
 
 
 def long_trace(length):
@@ -19,14 +21,25 @@ def long_trace(length):
 
 
 class Table(Case):
+    # What C-18 adds to rows of document 01, in its own words, and the words of each row before and after.
+    MORE = {
+        2: ('2 also for another base', 'byte order not 0 or 1;', 'byte order not 0 or 1; base not 10 or 16;'),
+        5: ('5 for a bad digit in the chosen base', 'breaks its form,', 'breaks its form in the chosen base,'),
+    }
+
     def test_sentences_are_the_papers(self):
         """Document 01's table, and then the rows of document 02's requests that have landed."""
         scope = (ROOT / 'docs/papers/01-scope.md').read_text()
         requests = (ROOT / 'docs/papers/02-change-requests.md').read_text()
         rows = re.findall(r'^\| (\d+) \| (.*) \|$', scope, re.M)
         rows += re.findall(r'^\*\*C-11\..* Refusals: (\d+), ([^,]+),', requests, re.M)
-        self.assertEqual([(int(number), reason) for number, reason in rows],
-                         [(refusal.value, refusal.reason) for refusal in Refusal])
+        more, = re.findall(r'^\*\*C-18\..* Refusals: (.*)\.$', requests, re.M)
+        self.assertEqual(more, '; '.join(words for words, _, _ in self.MORE.values()))
+        table = {int(number): reason for number, reason in rows}
+        for number, (_, before, after) in self.MORE.items():
+            self.assertIn(before, table[number])
+            table[number] = table[number].replace(before, after)
+        self.assertEqual(table, {refusal.value: refusal.reason for refusal in Refusal})
 
     def test_names_are_the_headers(self):
         header = (ROOT / 'include/tufakpeni.h').read_text()
@@ -41,7 +54,7 @@ class Table(Case):
 
 
 class Files(Case):
-    """Little-endian files that are refused, by whichever call is given them."""
+    """Little-endian files that are refused in both bases, by whichever call is given them."""
 
     CASES = [
         (1, bytes(LIMIT + 1)), (3, bytes(LIMIT)),
@@ -64,14 +77,13 @@ class Files(Case):
     ]
 
     def test_every_call(self):
-        any_number = Selection([(0, 65535)])
-        for number, file in self.CASES:
-            with self.subTest(number=number, file=file[:40]):
-                self.refused(number, Trace, file)
-                self.refused(number, cut, file, any_number)
+        for (number, file), base in itertools.product(self.CASES, (10, 16)):
+            with self.subTest(number=number, file=file[:40], base=base):
+                self.refused(number, Trace, file, 'little', base)
+                self.refused(number, cut, file, EVERY, 'little', base)
                 for pair in ((file, BARE), (BARE, file), (file, file)):
-                    self.refused(number, join, *pair)
-                    self.refused(number, Pair, *pair)
+                    self.refused(number, join, *pair, 'little', base)
+                    self.refused(number, Pair, *pair, 'little', base)
 
     def test_big(self):
         for number, file in ((6, BARE + b'\0\1\0\0\0'), (6, BARE + b'\0'), (7, BIG.trace([], FRAME)),
@@ -101,11 +113,42 @@ class Files(Case):
 
 
 class Arguments(Case):
+    # Each call that takes a byte order and a base, of one file.
+    CALLS = [
+        Trace,
+        lambda file, *settings: cut(file, EVERY, *settings),
+        lambda file, *settings: cut_into(bytearray(100), file, EVERY, *settings),
+        lambda file, *settings: join(file, file, *settings),
+        lambda file, *settings: join_into(bytearray(100), file, file, *settings),
+        lambda file, *settings: Pair(file, file, *settings),
+    ]
+
     def test_byte_order(self):
-        for order in ('middle', '', None, 0, 256):
-            for call in (Trace, lambda file, order: cut(file, Selection([]), order),
-                         lambda file, order: join(file, file, order), lambda file, order: Pair(file, file, order)):
-                self.refused(2, call, b'', order)
+        for order, call in itertools.product(('middle', '', None, 0, 256), self.CALLS):
+            self.refused(2, call, b'', order)
+            self.refused(2, call, b'', order, 10)
+
+    def test_base(self):
+        """Every integer but 10 and 16, and none is cut to a byte; ahead of the length and of all that is in the file."""
+        others = [*range(10), *range(11, 16), *range(17, 300), -1, -6, -240, -246, 2 ** 16 + 10, 2 ** 32 + 16, 2 ** 64,
+                  2 ** 64 + 10, 10 - 2 ** 64, 16 - 2 ** 64, True, False]
+        for base, call in itertools.product(others, self.CALLS):
+            with self.subTest(base):
+                for file in (b'', BARE, LITTLE.trace(['R 2'], FRAME)):
+                    self.refused(2, call, file, 'little', base)
+        self.refused(2, Trace, bytes(LIMIT + 1), 'little', 8)
+        for base, call in itertools.product((10, 16), self.CALLS):
+            call(BARE, 'little', base)
+
+    def test_an_output_stays_where_the_base_is_wrong(self):
+        output = bytearray(b'\xa5' * 100)
+        self.refused(2, cut_into, output, BARE, EVERY, 'little', 8)
+        self.refused(2, join_into, output, BARE, BARE, 'little', 266)
+        self.assertEqual(output, b'\xa5' * 100)
+
+    def test_a_base_that_is_no_integer(self):
+        for base, call in itertools.product(('16', '', None, 16.0, b'\x10', [16], (10,)), self.CALLS):
+            self.assertRaises(TypeError, call, BARE, 'little', base)
 
     def test_selections(self):
         for ranges, number in (([(2, 1)], 2), ([(1, 2)] * 9, 2), ([(1, 2)] * 300, 2), ([(1, 1)] * 8, None)):

@@ -17,26 +17,96 @@ class Openings(Case):
         self.assertEqual((len(trace), list(trace), trace.lines, bytes(trace.opening)), (0, [], [], BARE))
 
     def test_kinds(self):
-        lines = ['R 00002', 'status 0', 'tp T1', 'tsv 1', 'tdesc ', 'tp', 'R8', 'r 8', 'status', '\r', ' ', 'R\t8']
+        lines = ['R 0002', 'status 0', 'tp T1', 'tsv 1', 'tdesc ', 'tp', 'R8', 'r 8', 'status', '\r', ' ', 'R\t8']
         kinds = ['R', 'status', 'tp', 'tsv', 'tdesc'] + ['other'] * 7
         trace = Trace(LITTLE.trace(lines, LITTLE.frame(1)))
         self.assertEqual([line.kind for line in trace.lines], kinds)
         self.assertEqual([bytes(line.data).decode() for line in trace.lines], lines)
-        self.assertEqual([line.place for line in trace.lines[:3]], [8, 16, 25])
+        self.assertEqual([line.place for line in trace.lines[:3]], [8, 15, 24])
         self.assertEqual(bytes(trace.opening), LITTLE.trace(lines))
 
     def test_every_byte_but_the_end_may_stand_in_a_line(self):
         line = bytes(range(10)) + bytes(range(11, 256))
         self.assertEqual(bytes(Trace(HEAD + line + b'\n\n').lines[0].data), line)
 
-    def test_register_size(self):
-        for line, number in (('R 65535', None), ('R 0', None), ('R 00776', None), ('R 65536', 5), ('R 000776', 5),
-                             ('R ', 5), ('R 1 ', 5), ('R -1', 5), ('R 308x', 5)):
-            with self.subTest(line):
-                if number is None:
-                    self.assertEqual(Trace(LITTLE.trace([line])).lines[0].kind, 'R')
-                else:
-                    self.refused(number, Trace, LITTLE.trace([line]))
+
+class RegisterSizes(Case):
+    """What an R line says in base 10 and in base 16, which is the default."""
+
+    # What stands after `R `, and its number in each base; None where it is refused there.
+    SIZES = [
+        ('0', 0, 0), ('9', 9, 9), ('10', 10, 16), ('308', 308, 776), ('776', 776, 1910), ('974', 974, 2420),
+        ('9999', 9999, 39321), ('0308', 308, 776), ('00308', 308, None), ('00776', 776, None), ('000776', None, None),
+        ('10000', 10000, None), ('65535', 65535, None), ('65536', None, None), ('99999', None, None),
+        ('a', None, 10), ('F', None, 15), ('34c', None, 844), ('9c4', None, 2500), ('9C4', None, 2500),
+        ('fFfF', None, 65535), ('ffff', None, 65535), ('FFFF', None, 65535), ('0000', 0, 0), ('0ffff', None, None),
+        ('', None, None), ('1 ', None, None), (' 1', None, None), ('1\r', None, None), ('-1', None, None),
+        ('+1', None, None), ('0x1', None, None), ('308x', None, None), ('3 8', None, None), ('1_0', None, None),
+    ]
+
+    def says(self, line, base, size):
+        """The line gives register blocks of this size in either byte order, or is refused where it is None."""
+        for made in BOTH:
+            if size is None:
+                self.refused(5, Trace, HEAD + line + b'\n\n', made.order, base)
+                continue
+            blocks = made.registers(bytes(size)), made.variable(1, -2)
+            trace = Trace(HEAD + line + b'\n\n' + made.frame(1, *blocks), made.order, base)
+            frame, = trace
+            registers, variable = frame.place, frame.place + 1 + size
+            self.assertEqual(frame.blocks, [Registers(registers, bytes(size)), Variable(variable, 1, -2)])
+            self.assertEqual((trace.register_size, trace.register_line, trace.base), (size, trace.lines[0], base))
+
+    def test_both_bases(self):
+        for digits, ten, sixteen in self.SIZES:
+            for base, size in ((10, ten), (16, sixteen)):
+                with self.subTest(digits, base=base):
+                    self.says(f'R {digits}'.encode(), base, size)
+
+    def test_every_byte_as_a_digit(self):
+        values = {10: b'0123456789', 16: b'0123456789abcdef'}
+        for base, digits in values.items():
+            for byte in set(range(256)) - {0x0A}:
+                with self.subTest(byte, base=base):
+                    value = digits.find(bytes([byte]).lower())
+                    self.says(b'R %c' % byte, base, value if value >= 0 else None)
+                    self.says(b'R 1%c' % byte, base, base + value if value >= 0 else None)
+
+    def test_sixteen_where_nothing_is_said(self):
+        frame = LITTLE.frame(1, LITTLE.registers(bytes(776)))
+        self.assertEqual(len(Trace(LITTLE.trace(['R 308'], frame)).frame(0).registers), 776)
+        self.refused(9, Trace, LITTLE.trace(['R 776'], frame))
+        self.refused(5, Trace, LITTLE.trace(['R 65535']))
+
+    def test_one_file_with_two_readings(self):
+        """A size of decimal digits only is another number in each base, and a frame may hold blocks by both."""
+        for made in BOTH:
+            inner = made.memory(0x4D, bytes(1435))
+            file = made.trace(['R 974'], made.frame(1, made.registers(bytes(974)), inner))
+            ten, sixteen = (Trace(file, made.order, base).frame(0) for base in (10, 16))
+            self.assertEqual(ten.blocks, [Registers(21, bytes(974)), Memory(996, 0x4D, 1435, bytes(1435))])
+            self.assertEqual(sixteen.blocks, [Registers(21, bytes(974) + inner)])
+            self.assertEqual((len(ten.registers), len(sixteen.registers)), (974, 2420))
+            self.assertEqual(bytes(ten.memory(0x4D)), bytes(1435))
+            self.refused(12, sixteen.memory, 0x4D)
+
+    def test_without_a_register_block(self):
+        for base, size in ((10, 308), (16, 776)):
+            for frames in ((), (LITTLE.frame(1, LITTLE.variable(1, 2)),)):
+                trace = Trace(LITTLE.trace(['tp T1', 'R 308'], *frames) + MARK, base=base)
+                self.assertEqual((trace.register_size, bytes(trace.register_line.data)), (size, b'R 308'))
+
+    def test_without_an_r_line(self):
+        for base in (10, 16):
+            trace = Trace(LITTLE.trace(['tp T1', 'R308'], LITTLE.frame(1, LITTLE.variable(1, 2))), base=base)
+            self.assertEqual((trace.register_size, trace.register_line, trace.base), (None, None, base))
+
+    def test_a_base_of_another_type_of_integer(self):
+        class Ten:
+            def __index__(self):
+                return 10
+
+        self.assertEqual(Trace(LITTLE.trace(['R 10']), base=Ten()).register_size, 10)
 
 
 class Frames(Case):
@@ -152,13 +222,32 @@ class Blocks(Case):
                 self.refused(12, frame.variable, v)
 
 
+class Bases(Case):
+    """A trace and all that comes of it are read in the one base that was given."""
+
+    def test_every_question(self):
+        for made in BOTH:
+            blocks = made.variable(1, -1), made.registers(bytes(20)), made.memory(8, b'xyz')
+            frames = made.frame(1), made.frame(2, *blocks)
+            for base, line, wrong in ((10, 'R 20', 16), (16, 'R 14', 10)):
+                file = made.trace([line, 'tp T1'], *frames) + MARK
+                trace = Trace(file, made.order, base)
+                last = trace.frame(1)
+                self.assertEqual((len(trace), trace.marked, trace.register_size), (2, True, 20))
+                self.assertEqual([bytes(found.data) for found in trace.lines], [line.encode(), b'tp T1'])
+                self.assertEqual([type(block) for block in last.blocks], [Variable, Registers, Memory])
+                self.assertEqual((bytes(last.registers), last.variable(1)), (bytes(20), -1))
+                self.assertEqual(bytes(last.memory(9)), b'yz')
+                self.refused(8, Trace, file, made.order, wrong)
+
+
 class WholeFile(Case):
     """A frame is asked about in a trace of its own; the file itself must answer the same."""
 
     def test_same_answers(self):
         file = memoryview((ROOT / 'samples/board.tf').read_bytes())
         trace = Trace(file)
-        whole = (_library.settings('little'), file)
+        whole = (_library.settings('little', 16), file)
         for frame in trace:
             place = _library.ask('tfk_frame_place', *whole, frame.number)
             self.assertEqual((place.place, place.length), (frame.place, frame.size))
@@ -182,7 +271,7 @@ class WholeFile(Case):
 
     def test_listing_reads_each_frame_and_not_the_file(self):
         frames = [LITTLE.frame(1, LITTLE.registers(bytes(100)), LITTLE.variable(1, n)) for n in range(200)]
-        file = LITTLE.trace(['R 100'], *frames)
+        file = LITTLE.trace(['R 64'], *frames)
         given = []
 
         def counted(view, lent=_library.lent):

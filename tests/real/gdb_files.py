@@ -1,51 +1,34 @@
 """Traces that gdb saved, held against what gdb itself reads in them.
 
-As gdb saves them the library refuses them, as document 02 explains: the R line is hexadecimal (C-18). With that line in
-decimal they are read whole, and every line, frame, block, register byte, memory byte and variable is compared, and
-whether the end mark is there."""
+They are read as saved, in the base that holds where none is said, and every line, frame, block, register byte, memory
+byte and variable is compared, and whether the end mark is there. Two are broken: each is refused, and compared up to
+where it is."""
 import collections
 import hashlib
 import json
 import pathlib
+import subprocess
+import sys
 
-from report import same
-from tufakpeni import Memory, Refusal, Refused, Registers, Trace, Variable
+from report import refusal, same
+from tufakpeni import Memory, Refusal, Registers, Trace, Variable
 
-FOLDER = pathlib.Path(__file__).parent / 'gdb'
+HERE = pathlib.Path(__file__).parent
+FOLDER = HERE / 'gdb'
 FACTS = json.loads((FOLDER / 'facts.json').read_text())
 HEAD = 8
 MARK = bytes(4)
 
-HEXADECIMAL = Refusal.BAD_LINE      # `R 9c4`, `R 34c`, `R 2e8`: a letter is no decimal digit
-BROKEN = Refusal.BAD_LETTER         # the frame that the stub broke starts with a 00 where a letter should be
-ZERO = Refusal.BAD_MARK             # a head of number 0, with frames behind it
-READ = None
-
-# Each file: as saved; with the R line in decimal.
-REFUSALS = {
-    'badmem': (HEXADECIMAL, READ),
-    'bare': (HEXADECIMAL, READ),
-    'circular': (HEXADECIMAL, BROKEN),
-    'empty': (HEXADECIMAL, READ),
-    'full': (HEXADECIMAL, READ),
-    'i386': (HEXADECIMAL, READ),
-    'mem': (HEXADECIMAL, READ),
-    'passcount': (HEXADECIMAL, READ),
-    'raw': (HEXADECIMAL, READ),
-    'regs': (HEXADECIMAL, READ),
-    'resave': (HEXADECIMAL, READ),
-    's390x': (HEXADECIMAL, READ),
-    's390x-empty': (HEXADECIMAL, READ),
-    'step': (HEXADECIMAL, READ),
-    'tsv': (HEXADECIMAL, READ),
-    'tworegs-merged': (HEXADECIMAL, READ),
-    'zeronum': (HEXADECIMAL, ZERO),
+# The files that are refused as saved. All others are read.
+BROKEN = {
+    'circular': Refusal.BAD_LETTER,     # the frame that gdbserver broke starts with a 00 where a letter should be
+    'zeronum': Refusal.BAD_MARK,        # a head of number 0, with frames behind it
 }
 
 # gdb failed half way and wrote no mark.
 UNMARKED = {'resave'}
 
-# The head of the frame that gdbserver broke, as saved: gdb reads the five frames before it.
+# The head of the frame that gdbserver broke: gdb reads the five frames before it.
 CIRCULAR_BROKEN_AT = 29_678
 
 # Where a frame has no R block gdb takes the program counter from the tracepoint and shows it alone.
@@ -55,7 +38,11 @@ PROGRAM_COUNTERS = {'rip', 'eip', 'pswa'}
 def rows(name, kind):
     """The JSON lines of what gdb reads, where it reads such."""
     file = FOLDER / 'expected' / f'{name}.{kind}.json'
-    return [json.loads(line) for line in file.read_text().splitlines()] if file.exists() else []
+    return json_lines(file) if file.exists() else []
+
+
+def json_lines(file):
+    return [json.loads(line) for line in file.read_text().splitlines()]
 
 
 def decimal(file):
@@ -79,17 +66,9 @@ def read(frame, address, length):
     return data.hex()
 
 
-def refusal(file, order):
-    try:
-        Trace(file, order)
-    except Refused as refused:
-        return refused.number
-    return READ
-
-
-def compare_description(trace, facts, grown):
+def compare_description(trace, facts):
     same(dict(collections.Counter(line.kind for line in trace.lines)), facts['lines'], 'lines')
-    same(len(trace.opening), facts['opening'] + grown, 'opening')
+    same(len(trace.opening), facts['opening'], 'opening')
     shapes = (' '.join(map(shape, frame.blocks)) for frame in trace)
     same(dict(collections.Counter(shapes)), facts['blocks'], 'blocks')
 
@@ -144,16 +123,10 @@ def compare_variables(trace, expected):
              {number: found[0] for number, found in values.items()}, f'frame {frame.number}')
 
 
-def test_read(report, name, file, grown=None):
-    """A file that is read, against gdb. `grown` is how much longer its R line is now; without it, for a part of a
-    file, no facts are held."""
+def test_read(report, name, file):
+    """A file that is read, or a part of one, against gdb."""
     expected = [row for row in rows(name, 'gdb') if 'frame' in row]
     trace = Trace(file, FACTS[name]['order'])
-    if grown is not None:
-        with report.case(f'{name}: lines, opening and blocks'):
-            compare_description(trace, FACTS[name], grown)
-        with report.case(f'{name}: the end mark'):
-            same(trace.marked, name not in UNMARKED)
     for what, compare in (('frames', compare_frames), ('memory', compare_memory), ('variables', compare_variables)):
         with report.case(f'{name}: {what}'):
             compare(trace, expected)
@@ -161,54 +134,111 @@ def test_read(report, name, file, grown=None):
         compare_registers(trace, rows(name, 'regs'))
 
 
+def test_whole(report, name, file):
+    """What is known of a file that is read whole, and then all that gdb reads in it."""
+    trace = Trace(file, FACTS[name]['order'])
+    with report.case(f'{name}: lines, opening and blocks'):
+        compare_description(trace, FACTS[name])
+    with report.case(f'{name}: the end mark'):
+        same(trace.marked, name not in UNMARKED)
+    test_read(report, name, file)
+
+
 def test_saved(report, name, saved):
-    """The file is the one that the facts speak of, and each form of it is refused, or read, as told."""
+    """The file is the one that the facts speak of, and it is read, or refused, as told."""
     facts = FACTS[name]
     with report.case(f'{name}: unchanged'):
         same((len(saved), hashlib.sha256(saved).hexdigest()), (facts['bytes'], facts['sha256']))
         same(saved[HEAD:].split(b'\n', 1)[0].decode(), facts['register_line'])
-    with report.case(f'{name}: refusals'):
-        forms = (saved, decimal(saved))
-        same(tuple(refusal(form, facts['order']) for form in forms), REFUSALS[name])
         same(saved.endswith(MARK), name not in UNMARKED, 'four bytes of 0')
+    with report.case(f'{name}: as saved'):
+        same(refusal(Trace, saved, facts['order']), BROKEN.get(name))
+    with report.case(f'{name}: in base 10'):
+        # Every R line here has a letter among its digits.
+        same(refusal(Trace, saved, facts['order'], 10), Refusal.BAD_LINE)
+
+
+def contents(trace):
+    """All that a trace has behind its R line, which gdb writes first."""
+    lines = [(line.kind, bytes(line.data)) for line in trace.lines[1:]]
+    frames = [(frame.tracepoint, bytes(frame.data), [shape(block) for block in frame.blocks]) for frame in trace]
+    return trace.register_size, lines, frames, trace.marked
+
+
+def test_decimal(report, name, saved, sound):
+    """The file with its R line in decimal. In base 10 it is what it was; `sound` is the part that can be compared."""
+    order = FACTS[name]['order']
+    with report.case(f'{name}: in decimal and in base 10'):
+        same(refusal(Trace, decimal(saved), order, 10), BROKEN.get(name))
+        same(contents(Trace(decimal(sound), order, 10)), contents(Trace(sound, order)))
+    with report.case(f'{name}: in decimal, and nothing said'):
+        # As hexadecimal the number is larger, and no register block has room. Without such a block all is as it was.
+        expected = Refusal.BLOCK_PAST_DATA if rows(name, 'regs') else BROKEN.get(name)
+        same(refusal(Trace, decimal(saved), order), expected)
+
+
+def test_decimal_digits(report):
+    """A trace made by hand, in which gdb reads `R 974` in base 16: it finds the memory behind 2,420 bytes of registers,
+    and not the memory that base 10 shows within them."""
+    file = (HERE / 'made/digits.tf').read_bytes()
+    with report.case('digits: what its script makes'):
+        words = [sys.executable, HERE / 'scripts/make_digits.py']
+        same(subprocess.run(words, stdout=subprocess.PIPE, check=True).stdout, file)
+    with report.case('digits: as gdb reads it'):
+        expected, _ = json_lines(HERE / 'made/digits.gdb.json')
+        trace = Trace(file)
+        compare_frames(trace, [expected])
+        compare_memory(trace, [expected])
+        same((trace.register_size, [shape(block) for block in trace.frame(0).blocks]), (2420, ['R', 'M8']))
+    with report.case('digits: in base 10'):
+        trace = Trace(file, base=10)
+        same((trace.register_size, [shape(block) for block in trace.frame(0).blocks]), (974, ['R', 'M1435', 'M8']))
 
 
 def test_two_values(report):
     """In tsv.tf a variable is collected before and after a step, so that earliest and last differ."""
     with report.case('tsv: earliest and last'):
-        trace = Trace(decimal((FOLDER / 'tsv.tf').read_bytes()))
+        trace = Trace((FOLDER / 'tsv.tf').read_bytes())
         pairs = [[block.value for block in frame.blocks if shape(block) == 'V2'] for frame in trace]
         same(pairs, [[5, 6], [6, 7], [7, 8]])
         same([frame.variable(2) for frame in trace], [5, 6, 7])
 
 
-def test_zero_numbers(report, file):
+def test_zero_numbers(report, sound):
     """Tracepoint 65,536 was stored as number 0. gdb takes the first such head for the end mark, whatever follows, and
     reads no frame. Here what follows makes it a bad mark; up to there the file is read as gdb reads it."""
     with report.case('zeronum: up to the first number 0'):
         summary, = rows('zeronum', 'gdb')
-        opening = file.index(b'\n\n') + len(b'\n\n')
-        trace = Trace(file[:opening + len(MARK)])
+        trace = Trace(sound)
         same((len(trace), trace.marked), (summary['frames'], True))
 
 
-def test_forms(report, name):
-    """The file as saved, and then read in the form in which it can be."""
-    saved = (FOLDER / f'{name}.tf').read_bytes()
-    file = decimal(saved)
-    grown = len(file) - len(saved)
-    test_saved(report, name, saved)
+def sound_part(name, saved):
+    """The whole file, and of a broken one the part that gdb reads too."""
     if name == 'circular':
-        test_read(report, name, file[:CIRCULAR_BROKEN_AT + grown])
-    elif name == 'zeronum':
-        test_zero_numbers(report, file)
+        return saved[:CIRCULAR_BROKEN_AT]
+    if name == 'zeronum':
+        return saved[:saved.index(b'\n\n') + len(b'\n\n') + len(MARK)]
+    return saved
+
+
+def test_file(report, name):
+    saved = (FOLDER / f'{name}.tf').read_bytes()
+    sound = sound_part(name, saved)
+    test_saved(report, name, saved)
+    test_decimal(report, name, saved, sound)
+    if name == 'zeronum':
+        test_zero_numbers(report, sound)
+    elif name in BROKEN:
+        test_read(report, name, sound)
     else:
-        test_read(report, name, file, grown)
+        test_whole(report, name, saved)
 
 
 def test(report):
     same(sorted(path.stem for path in FOLDER.glob('*.tf')), sorted(FACTS), 'files')
     for name in FACTS:
         with report.case(f'{name}: read'):
-            test_forms(report, name)
+            test_file(report, name)
     test_two_values(report)
+    test_decimal_digits(report)

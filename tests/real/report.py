@@ -1,6 +1,8 @@
 """Cases that are counted."""
 import contextlib
 
+from tufakpeni import Refused
+
 
 class Report:
     def __init__(self):
@@ -22,3 +24,12 @@ class Report:
 def same(found, expected, what=''):
     if found != expected:
         raise AssertionError(f'{what}: {found!r} is not {expected!r}')
+
+
+def refusal(call, *arguments):
+    """What a call is refused with; None where it is not."""
+    try:
+        call(*arguments)
+    except Refused as refused:
+        return refused.number
+    return None

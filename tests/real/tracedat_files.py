@@ -3,8 +3,8 @@ import hashlib
 import json
 import pathlib
 
-from report import same
-from tufakpeni import CpuRange, Refusal, Refused, TraceDat
+from report import refusal, same
+from tufakpeni import CpuRange, Refusal, TraceDat
 
 FOLDER = pathlib.Path(__file__).parent / 'tracedat'
 FACTS = json.loads((FOLDER / 'facts.json').read_text())
@@ -73,14 +73,6 @@ def compare_latency(header, facts):
     same(header.cpus, [])
     for i in range(header.cpu_count):
         same(refusal(header.cpu_range, i), Refusal.NOT_FOUND)
-
-
-def refusal(call, *arguments):
-    try:
-        call(*arguments)
-    except Refused as refused:
-        return refused.number
-    return None
 
 
 def test_file(report, name, facts, file):

@@ -120,7 +120,9 @@ class Spoiled(unittest.TestCase):
         self.assertIn(f'{RULES}:{line}: C-14 has landed', self.told(landed=LANDED + ('C-14',)))
 
     def test_a_landed_request_that_is_missing(self):
-        del self.lines[self.lines.index(f'### {REQUEST}'):]
+        at = self.lines.index(f'### {REQUEST}')
+        end = next(k for k in range(at + 1, len(self.lines)) if self.lines[k].startswith('### '))
+        del self.lines[at:end]
         self.one(f'the heading of 02-change-requests.md is to stand: {REQUEST}')
 
     def test_a_request_that_has_not_landed(self):

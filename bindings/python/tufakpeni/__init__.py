@@ -4,6 +4,12 @@
         for frame in trace:
             print(frame.number, frame.tracepoint, frame.registers[264:280].hex())
 
+The R line says how long a register block is, in hexadecimal as debuggers write it: `R 308` for 776 bytes. A file that
+has it in decimal must be read so, here and wherever it is cut or joined:
+
+    Trace(data, base=10)
+    cut(data, Selection([(1, 1)]), base=10)
+
 What is handed out are parts of the caller's bytes, not copies. A file or a question that the library refuses raises
 Refused, with the number and the sentence of document 01's table, or of document 02's requests."""
 from ._library import LibraryMissing, LibraryUnfit

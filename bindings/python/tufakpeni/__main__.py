@@ -4,14 +4,17 @@ import signal
 import sys
 
 from . import view
-from ._library import ORDERS, LibraryMissing, LibraryUnfit
+from ._library import BASES, ORDERS, LibraryMissing, LibraryUnfit
 from .dat import MAGIC, TraceDat
-from .refusal import Refused
+from .refusal import Refusal, Refused
 from .trace import Trace
 
 LIMIT = 67_108_864
 REFUSED = 1
 UNREADABLE = 2
+
+# What a file may be refused with because its R line was read in the other base.
+BY_THE_BASE = (Refusal.BAD_LINE, Refusal.BAD_LETTER, Refusal.BLOCK_PAST_DATA)
 
 
 def arguments(words=None):
@@ -21,6 +24,7 @@ def arguments(words=None):
                     'the lines and the frames.')
     parser.add_argument('file')
     parser.add_argument('--order', choices=ORDERS, default='little', help='byte order of a GDB trace')
+    parser.add_argument('--base', type=int, choices=BASES, default=16, help='base of the R line in a GDB trace')
     parser.add_argument('--lines', action='store_true', help='the lines of the description')
     parser.add_argument('--frames', action='store_true', help='the frames')
     parser.add_argument('--blocks', action='store_true', help="the frames' blocks, with the bytes of memory")
@@ -35,10 +39,11 @@ def shown_trace(trace, chosen):
     """The lines of text that the arguments ask for."""
     details = [show for show in (view.blocks, view.registers, view.variables) if getattr(chosen, show.__name__)]
     framed = details or chosen.frames or chosen.frame is not None
+    frames = trace if chosen.frame is None else [trace.frame(chosen.frame)]
+    yield from view.size(trace)
     if chosen.lines or not framed:
         yield from view.lines(trace)
     if framed or not chosen.lines:
-        frames = trace if chosen.frame is None else [trace.frame(chosen.frame)]
         yield from view.frames(trace, frames, details)
 
 
@@ -47,8 +52,17 @@ def show(data, chosen):
         with TraceDat(data) as header:
             sys.stdout.writelines(line + '\n' for line in view.dat(header))
     else:
-        with Trace(data, chosen.order) as trace:
+        with Trace(data, chosen.order, chosen.base) as trace:
             sys.stdout.writelines(line + '\n' for line in shown_trace(trace, chosen))
+
+
+def explained(refused, data, base):
+    """A refusal as text; where the base may be the reason, with the base that was tried and how to try the other."""
+    described = data.find(b'\n\n') + 1
+    if refused.number not in BY_THE_BASE or data.find(b'\nR ', 0, described) < 0:
+        return str(refused)
+    other, = set(BASES) - {base}
+    return f'{refused}\nbase {base} was tried for the R line; to try the other: --base {other}'
 
 
 def main():
@@ -58,10 +72,11 @@ def main():
     try:
         with open(chosen.file, 'rb') as file:
             # One byte over the limit is enough to be refused for it.
-            show(file.read(LIMIT + 1), chosen)
+            data = file.read(LIMIT + 1)
+        show(data, chosen)
     except Refused as refused:
         sys.stdout.flush()
-        print(refused, file=sys.stderr)
+        print(explained(refused, data, chosen.base), file=sys.stderr)
         return REFUSED
     except (OSError, LibraryMissing, LibraryUnfit) as error:
         print(error, file=sys.stderr)

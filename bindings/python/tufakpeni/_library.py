@@ -14,7 +14,7 @@ VARIABLE = 'TUFAKPENI_LIBRARY'
 NAME = 'libtufakpeni.so'
 
 # The number of the interface that is declared here, as include/tufakpeni.h had it.
-INTERFACE = 2
+INTERFACE = 3
 
 MAKE = f"""Make it in the repository's root by
     rt staticlib trace_c
@@ -37,7 +37,7 @@ def struct(name, **fields):
     return type(name, (ctypes.Structure,), {'_fields_': list(fields.items())})
 
 
-Settings = struct('Settings', order=c_uint8)
+Settings = struct('Settings', order=c_uint8, base=c_uint8)
 Count = struct('Count', refusal=c_uint8, count=c_size_t)
 Mark = struct('Mark', refusal=c_uint8, marked=c_uint8)
 Place = struct('Place', refusal=c_uint8, place=c_size_t, length=c_size_t)
@@ -65,6 +65,7 @@ TRACES = (Settings, *BYTES, *BYTES)
 # Each call's answer and its arguments.
 CALLS = {
     'tfk_interface': (c_uint64,),
+    'tfk_default_settings': (Settings, c_uint8),
     'tfk_frame_count': (Count, *TRACE),
     'tfk_end_mark': (Mark, *TRACE),
     'tfk_frame_table': (Count, *TRACE, *BYTES),
@@ -85,6 +86,8 @@ CALLS = {
 
 ORDERS = ('little', 'big')
 NO_ORDER = len(ORDERS)
+BASES = (10, 16)
+NO_BASE = 0
 NO_INDEX = c_size_t(-1).value
 
 
@@ -142,9 +145,11 @@ def ask(name, *arguments):
     return answer
 
 
-def settings(order):
-    """How a trace is read. A word that names no byte order becomes a number that the library refuses."""
-    return Settings(ORDERS.index(order) if order in ORDERS else NO_ORDER)
+def settings(order, base):
+    """How a trace is read. A word that names no byte order, and a base that is no byte, become numbers that the library
+    refuses."""
+    base = operator.index(base)
+    return Settings(ORDERS.index(order) if order in ORDERS else NO_ORDER, base if fits(base, 8) else NO_BASE)
 
 
 def index(n):

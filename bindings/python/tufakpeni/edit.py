@@ -43,28 +43,28 @@ def _apart(output, *files):
         yield output, files
 
 
-def cut_into(output, data, selection, order='little'):
+def cut_into(output, data, selection, order='little', base=16):
     """Writes the opening and every selected frame into a buffer, and the end mark if the trace has one. Answers the
-    length; what is beyond stays unchanged."""
+    length; what is beyond stays unchanged. Byte order and base are as in Trace."""
     with _apart(output, data) as (room, files):
-        return ask('tfk_cut', settings(order), *files, selection.numbers(), room).length
+        return ask('tfk_cut', settings(order, base), *files, selection.numbers(), room).length
 
 
-def join_into(output, first, second, order='little'):
+def join_into(output, first, second, order='little', base=16):
     """Writes the common opening and the frames of both traces into a buffer, and one end mark if either has one, as
     cut_into does."""
     with _apart(output, first, second) as (room, files):
-        return ask('tfk_join', settings(order), *files, room).length
+        return ask('tfk_join', settings(order, base), *files, room).length
 
 
-def cut(data, selection, order='little'):
+def cut(data, selection, order='little', base=16):
     """The opening, every selected frame, and the end mark if the trace has one."""
-    return _filled(memoryview(data).nbytes, cut_into, data, selection, order)
+    return _filled(memoryview(data).nbytes, cut_into, data, selection, order, base)
 
 
-def join(first, second, order='little'):
+def join(first, second, order='little', base=16):
     """The common opening, the first trace's frames, then the second's, and one end mark if either has one."""
-    return _filled(memoryview(first).nbytes + memoryview(second).nbytes, join_into, first, second, order)
+    return _filled(memoryview(first).nbytes + memoryview(second).nbytes, join_into, first, second, order, base)
 
 
 def _filled(room, write, *arguments):

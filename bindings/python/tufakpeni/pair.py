@@ -15,12 +15,13 @@ class PairFrame(NamedTuple):
 
 
 class Pair(Holder):
-    """Two traces read as if joined; no copy is made. Where they cannot be joined, making it raises Refused.
+    """Two traces read as if joined; no copy is made. Where they cannot be joined, making it raises Refused. Byte order
+    and base, as in Trace, are those of both.
 
     Every question reads both files."""
 
-    def __init__(self, first, second, order='little'):
-        self._settings = settings(order)
+    def __init__(self, first, second, order='little', base=16):
+        self._settings = settings(order, base)
         super().__init__(first, second)
 
     def _read(self):

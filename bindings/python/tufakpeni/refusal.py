@@ -13,10 +13,10 @@ class Refusal(enum.IntEnum):
         return member
 
     TOO_LONG = 1, "a file, or a join's result, is longer than 67,108,864 bytes"
-    BAD_ARGUMENT = 2, 'an argument is wrong: byte order not 0 or 1; a range with low above high; more than 8 ranges'
+    BAD_ARGUMENT = 2, 'an argument is wrong: byte order not 0 or 1; base not 10 or 16; a range with low above high; more than 8 ranges'
     BAD_HEAD = 3, 'the head differs or is cut short'
     NO_EMPTY_LINE = 4, 'the description has no empty line'
-    BAD_LINE = 5, 'an ended `R ` line breaks its form, or a second `R ` or `status ` line'
+    BAD_LINE = 5, 'an ended `R ` line breaks its form in the chosen base, or a second `R ` or `status ` line'
     SHORT_HEAD = 6, '1 to 5 bytes remain where a frame head should start'
     DATA_PAST_FILE = 7, "a frame's data runs past the file"
     BAD_LETTER = 8, 'a block letter other than R, M, V'

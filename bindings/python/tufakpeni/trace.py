@@ -7,6 +7,7 @@ from ._library import FrameRecord, ask, fits, index, settings
 from .refusal import Refusal, Refused, absence_passed
 
 KINDS = ('other', 'R', 'status', 'tp', 'tsv', 'tdesc')
+HEAD = 8
 FRAME_HEAD = 6
 MARK = 4
 
@@ -125,10 +126,12 @@ class Frame:
 class Trace(Holder):
     """A GDB trace over the caller's bytes. Of a map of a file that other processes write to, give it a copy.
 
-    It has its frames as length and iteration. Where the bytes are no trace, making it raises Refused."""
+    It has its frames as length and iteration. Where the bytes are no trace, making it raises Refused.
 
-    def __init__(self, data, order='little'):
-        self._settings = settings(order)
+    `base` is that of the number in the R line: 16, as debuggers write it, or 10; any other is refused."""
+
+    def __init__(self, data, order='little', base=16):
+        self._settings = settings(order, base)
         super().__init__(data)
 
     def _read(self):
@@ -164,9 +167,33 @@ class Trace(Holder):
 
     @property
     def lines(self):
-        """The description's lines, the closing empty one not among them.
+        """The description's lines, the closing empty one not among them."""
+        return list(self._lines())
 
-        The opening alone is a trace too, and it is the one that is asked: see Frame._alone."""
-        with self.opening as opening:
-            return [Line(KINDS[line.kind], line.place, self.part(line.place, line.length))
-                    for line in answers('tfk_line_place', self._settings, opening)]
+    def _lines(self):
+        """The same one by one. A line alone is a description too, and it is the one that is asked: see Frame._alone."""
+        opening = bytes(self.opening)
+        place = HEAD
+        while not opening.startswith(b'\n', place):
+            end = opening.index(b'\n', place)
+            alone = memoryview(opening[:HEAD] + opening[place:end] + b'\n\n')
+            line = ask('tfk_line_place', self._settings, alone, 0)
+            yield Line(KINDS[line.kind], place, self.part(place, line.length))
+            place = end + 1
+
+    @property
+    def base(self):
+        """The base in which the R line is read."""
+        return self._settings.base
+
+    @property
+    def register_line(self):
+        """The R line; None where there is none."""
+        return next((line for line in self._lines() if line.kind == 'R'), None)
+
+    @property
+    def register_size(self):
+        """How many bytes a register block has by the R line; None where there is no such line."""
+        line = self.register_line
+        # The library has let the line through, so nothing but digits of the base stands behind its word.
+        return None if line is None else int(bytes(line.data[len('R '):]), self.base)

@@ -20,6 +20,15 @@ def indented(depth, lines):
     return ('  ' * depth + line for line in lines)
 
 
+def size(trace):
+    """How long register blocks are, with the line that says it and the base in which it is read."""
+    line = trace.register_line
+    if line is None:
+        yield 'no R line, so no register blocks'
+    else:
+        yield f'register blocks of {trace.register_size} bytes: `{text(line.data)}` in base {trace.base}'
+
+
 def lines(trace):
     found = trace.lines
     yield f'lines {len(found)}'

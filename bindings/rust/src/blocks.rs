@@ -2,7 +2,7 @@
 use crate::raw;
 use crate::run::{Elements, Run};
 use crate::trace::HEAD;
-use crate::Order;
+use crate::Settings;
 use std::iter::FusedIterator;
 use std::ops::Range;
 
@@ -28,7 +28,7 @@ pub struct Block<'a> {
 /// How a frame's blocks are read: nothing else of a trace bears on them.
 #[derive(Clone, Copy, Debug)]
 pub(crate) struct Manner<'a> {
-    pub order: Order,
+    pub settings: Settings,
     /// The R line with its end; empty where there is none.
     pub register_line: &'a [u8],
 }
@@ -45,7 +45,7 @@ impl Manner<'_> {
         trace.extend_from_slice(self.register_line);
         trace.push(b'\n');
         trace.extend_from_slice(&TRACEPOINT);
-        trace.extend_from_slice(&self.order.four_bytes(size));
+        trace.extend_from_slice(&self.settings.order.four_bytes(size));
         let place = trace.len();
         trace.extend_from_slice(blocks);
         place
@@ -99,9 +99,9 @@ impl Run for Manner<'_> {
 
     /// A register block's record has no length; all are as long as the earliest one.
     fn ask(&self, trace: &[u8], k: usize) -> Option<raw::Block> {
-        let mut block = raw::block_record(self.order, trace, 0, k).ok()?;
+        let mut block = raw::block_record(self.settings, trace, 0, k).ok()?;
         if block.letter == b'R' {
-            block.length = raw::registers_place(self.order, trace, 0).ok()?.length;
+            block.length = raw::registers_place(self.settings, trace, 0).ok()?.length;
         }
         Some(block)
     }

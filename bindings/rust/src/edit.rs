@@ -1,5 +1,5 @@
 //! Cutting and joining traces, and two traces read as if joined.
-use crate::{raw, Order, Refusal, LONGEST};
+use crate::{raw, Refusal, Settings, LONGEST};
 use std::ops::RangeInclusive;
 
 /// The tracepoint numbers whose frames a cut holds: those in some of up to 8 ranges, or those in none.
@@ -57,13 +57,18 @@ impl Selection {
 /// assert_eq!(cut(Order::Little, file, &Selection::keep([2..=2]), &mut out[..14]), Err(Refusal::NoRoom));
 /// # Ok::<(), Refusal>(())
 /// ```
-pub fn cut(order: Order, file: &[u8], selection: &Selection, out: &mut [u8]) -> Result<usize, Refusal> {
-    Ok(raw::cut(order, file, selection.0, out)?.length)
+pub fn cut(
+    settings: impl Into<Settings>,
+    file: &[u8],
+    selection: &Selection,
+    out: &mut [u8],
+) -> Result<usize, Refusal> {
+    Ok(raw::cut(settings.into(), file, selection.0, out)?.length)
 }
 
 /// The cut as bytes of its own.
-pub fn cut_to_vec(order: Order, file: &[u8], selection: &Selection) -> Result<Vec<u8>, Refusal> {
-    written(file.len(), |out| cut(order, file, selection, out))
+pub fn cut_to_vec(settings: impl Into<Settings>, file: &[u8], selection: &Selection) -> Result<Vec<u8>, Refusal> {
+    written(file.len(), |out| cut(settings, file, selection, out))
 }
 
 /// Writes the common opening, the frames of the first trace and those of the second to `out`, and one end mark if either trace has
@@ -79,13 +84,13 @@ pub fn cut_to_vec(order: Order, file: &[u8], selection: &Selection) -> Result<Ve
 /// assert_eq!(&out[..length], b"\x7fTRACE0\n\n\x01\0\0\0\0\0\x02\0\0\0\0\0");
 /// # Ok::<(), tufakpeni::Refusal>(())
 /// ```
-pub fn join(order: Order, first: &[u8], second: &[u8], out: &mut [u8]) -> Result<usize, Refusal> {
-    Ok(raw::join(order, first, second, out)?.length)
+pub fn join(settings: impl Into<Settings>, first: &[u8], second: &[u8], out: &mut [u8]) -> Result<usize, Refusal> {
+    Ok(raw::join(settings.into(), first, second, out)?.length)
 }
 
 /// The join as bytes of its own.
-pub fn join_to_vec(order: Order, first: &[u8], second: &[u8]) -> Result<Vec<u8>, Refusal> {
-    written(first.len() + second.len(), |out| join(order, first, second, out))
+pub fn join_to_vec(settings: impl Into<Settings>, first: &[u8], second: &[u8]) -> Result<Vec<u8>, Refusal> {
+    written(first.len() + second.len(), |out| join(settings, first, second, out))
 }
 
 /// What `write` leaves in an output of `most` bytes; no result is longer than the limit.
@@ -122,7 +127,7 @@ pub struct PairFrame<'a> {
 ///
 /// let first = b"\x7fTRACE0\n\n\x01\0\0\0\0\0";
 /// let second = b"\x7fTRACE0\n\n\x02\0\x0D\0\0\0V\x01\0\0\0\xFE\xFF\xFF\xFF\xFF\xFF\xFF\xFF";
-/// let pair = Pair { order: Order::Little, first, second };
+/// let pair = Pair::new(Order::Little, first, second);
 /// assert_eq!(pair.frame(1)?.side, Side::Second);
 /// assert_eq!(pair.frame(1)?.data, &second[15..]);
 /// assert_eq!(pair.variable(1, 1)?, -2);
@@ -130,15 +135,19 @@ pub struct PairFrame<'a> {
 /// ```
 #[derive(Clone, Copy, Debug)]
 pub struct Pair<'a> {
-    pub order: Order,
+    pub settings: Settings,
     pub first: &'a [u8],
     pub second: &'a [u8],
 }
 
 impl<'a> Pair<'a> {
+    pub fn new(settings: impl Into<Settings>, first: &'a [u8], second: &'a [u8]) -> Pair<'a> {
+        Pair { settings: settings.into(), first, second }
+    }
+
     /// The data of frame n.
     pub fn frame(&self, n: usize) -> Result<PairFrame<'a>, Refusal> {
-        let found = raw::pair_place(self.order, self.first, self.second, n)?;
+        let found = raw::pair_place(self.settings, self.first, self.second, n)?;
         let (side, file) = match found.trace {
             0 => (Side::First, self.first),
             _ => (Side::Second, self.second),
@@ -149,6 +158,6 @@ impl<'a> Pair<'a> {
 
     /// The value of a variable in frame n.
     pub fn variable(&self, n: usize, number: u32) -> Result<i64, Refusal> {
-        Ok(raw::pair_variable(self.order, self.first, self.second, n, number)?.value)
+        Ok(raw::pair_variable(self.settings, self.first, self.second, n, number)?.value)
     }
 }

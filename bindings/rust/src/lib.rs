@@ -3,8 +3,9 @@
 //! Every answer is the library's, whose functions are proved to say what the published layouts say; this crate gives them Rust's
 //! types. Parts of a file are handed back as parts of the caller's own bytes.
 //!
-//! A GDB trace does not record its byte order, so the caller gives an [`Order`]. Lines, frames, blocks and CPUs count from 0, and
-//! a place counts bytes from the file's start. What cannot be answered is a [`Refusal`], which knows its number and its sentence.
+//! A GDB trace records neither its byte order nor the base of its R line, so the caller gives [`Settings`], or an [`Order`] alone for
+//! base 16. Lines, frames, blocks and CPUs count from 0, and a place counts bytes from the file's start. What cannot be answered is
+//! a [`Refusal`], which knows its number and its sentence.
 //!
 //! The archive that is linked must have this crate's interface. Where it has another, the first call panics with both numbers.
 //!
@@ -28,6 +29,7 @@ mod order;
 mod raw;
 mod refusal;
 mod run;
+mod settings;
 mod trace;
 
 pub use blocks::{Block, Blocks, Content};
@@ -36,6 +38,7 @@ pub use edit::{cut, cut_to_vec, join, join_to_vec, Pair, PairFrame, Selection, S
 pub use lines::{Line, LineKind, Lines};
 pub use order::Order;
 pub use refusal::Refusal;
+pub use settings::{Base, Settings};
 pub use trace::{Frame, Trace};
 
 /// The length of the longest file that is read, and of the longest join: 64 MiB.

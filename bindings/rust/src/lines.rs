@@ -2,7 +2,7 @@
 use crate::raw;
 use crate::run::{Elements, Run};
 use crate::trace::HEAD;
-use crate::Order;
+use crate::Settings;
 use std::iter::FusedIterator;
 use std::ops::Range;
 
@@ -60,8 +60,8 @@ pub struct Lines<'a>(Elements<'a, LineRun>);
 
 impl<'a> Lines<'a> {
     /// Those of a description that stands at `bytes` of the file, without its closing empty line.
-    pub(crate) fn new(order: Order, file: &'a [u8], bytes: Range<usize>) -> Lines<'a> {
-        Lines(Elements::new(LineRun(order), file, bytes))
+    pub(crate) fn new(settings: Settings, file: &'a [u8], bytes: Range<usize>) -> Lines<'a> {
+        Lines(Elements::new(LineRun(settings), file, bytes))
     }
 }
 
@@ -78,7 +78,7 @@ impl FusedIterator for Lines<'_> {}
 
 /// Lines of which no two are `R ` or `status ` lines are a description: with the head before and an empty line behind they are a trace without frames.
 #[derive(Clone, Debug)]
-struct LineRun(Order);
+struct LineRun(Settings);
 
 impl Run for LineRun {
     type Element = raw::Line;

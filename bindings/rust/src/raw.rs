@@ -3,12 +3,13 @@
 //! Each call is sound for the same reasons: a slice's pointer and length name bytes that live as long as the call, an output is lent
 //! alone (`&mut`) so that it overlaps no file, every bit pattern of an answer is a value of its type, and the library keeps no pointer.
 //! The library's interface is asked for its number before the first of them.
-use crate::{Order, Refusal};
+use crate::Refusal;
 use std::sync::OnceLock;
 
 #[repr(C)]
 struct Settings {
     order: u8,
+    base: u8,
 }
 
 #[repr(C)]
@@ -129,7 +130,7 @@ pub struct CpuRange {
 }
 
 /// The number of the interface that is declared here, as include/tufakpeni.h had it.
-const INTERFACE: u64 = 2;
+const INTERFACE: u64 = 3;
 
 extern "C" {
     fn tfk_interface() -> u64;
@@ -241,66 +242,74 @@ macro_rules! answers {
 
 answers!(Count, Mark, Place, Line, Block, Value, Length, PairPart, DatSummary, CpuRange);
 
-fn settings(order: Order) -> Settings {
-    Settings { order: order.number() }
+impl From<crate::Settings> for Settings {
+    fn from(given: crate::Settings) -> Settings {
+        Settings { order: given.order.number(), base: given.base.number() }
+    }
 }
 
-pub fn frame_count(order: Order, file: &[u8]) -> Result<Count, Refusal> {
-    unsafe { tfk_frame_count(settings(order), file.as_ptr(), file.len()) }.answered()
+pub fn frame_count(settings: crate::Settings, file: &[u8]) -> Result<Count, Refusal> {
+    unsafe { tfk_frame_count(settings.into(), file.as_ptr(), file.len()) }.answered()
 }
 
-pub fn end_mark(order: Order, file: &[u8]) -> Result<Mark, Refusal> {
-    unsafe { tfk_end_mark(settings(order), file.as_ptr(), file.len()) }.answered()
+pub fn end_mark(settings: crate::Settings, file: &[u8]) -> Result<Mark, Refusal> {
+    unsafe { tfk_end_mark(settings.into(), file.as_ptr(), file.len()) }.answered()
 }
 
-pub fn frame_table(order: Order, file: &[u8], out: &mut [Frame]) -> Result<Count, Refusal> {
-    unsafe { tfk_frame_table(settings(order), file.as_ptr(), file.len(), out.as_mut_ptr(), out.len()) }.answered()
+pub fn frame_table(settings: crate::Settings, file: &[u8], out: &mut [Frame]) -> Result<Count, Refusal> {
+    unsafe { tfk_frame_table(settings.into(), file.as_ptr(), file.len(), out.as_mut_ptr(), out.len()) }.answered()
 }
 
-pub fn line_place(order: Order, file: &[u8], j: usize) -> Result<Line, Refusal> {
-    unsafe { tfk_line_place(settings(order), file.as_ptr(), file.len(), j) }.answered()
+pub fn line_place(settings: crate::Settings, file: &[u8], j: usize) -> Result<Line, Refusal> {
+    unsafe { tfk_line_place(settings.into(), file.as_ptr(), file.len(), j) }.answered()
 }
 
-pub fn block_record(order: Order, file: &[u8], n: usize, k: usize) -> Result<Block, Refusal> {
-    unsafe { tfk_block_record(settings(order), file.as_ptr(), file.len(), n, k) }.answered()
+pub fn block_record(settings: crate::Settings, file: &[u8], n: usize, k: usize) -> Result<Block, Refusal> {
+    unsafe { tfk_block_record(settings.into(), file.as_ptr(), file.len(), n, k) }.answered()
 }
 
-pub fn registers_place(order: Order, file: &[u8], n: usize) -> Result<Place, Refusal> {
-    unsafe { tfk_registers_place(settings(order), file.as_ptr(), file.len(), n) }.answered()
+pub fn registers_place(settings: crate::Settings, file: &[u8], n: usize) -> Result<Place, Refusal> {
+    unsafe { tfk_registers_place(settings.into(), file.as_ptr(), file.len(), n) }.answered()
 }
 
-pub fn memory_place(order: Order, file: &[u8], n: usize, address: u64) -> Result<Place, Refusal> {
-    unsafe { tfk_memory_place(settings(order), file.as_ptr(), file.len(), n, address) }.answered()
+pub fn memory_place(settings: crate::Settings, file: &[u8], n: usize, address: u64) -> Result<Place, Refusal> {
+    unsafe { tfk_memory_place(settings.into(), file.as_ptr(), file.len(), n, address) }.answered()
 }
 
-pub fn variable(order: Order, file: &[u8], n: usize, number: u32) -> Result<Value, Refusal> {
-    unsafe { tfk_variable(settings(order), file.as_ptr(), file.len(), n, number) }.answered()
+pub fn variable(settings: crate::Settings, file: &[u8], n: usize, number: u32) -> Result<Value, Refusal> {
+    unsafe { tfk_variable(settings.into(), file.as_ptr(), file.len(), n, number) }.answered()
 }
 
 pub fn opposite(selection: Selection) -> Selection {
     unsafe { tfk_opposite(selection) }
 }
 
-pub fn cut(order: Order, file: &[u8], selection: Selection, out: &mut [u8]) -> Result<Length, Refusal> {
-    unsafe { tfk_cut(settings(order), file.as_ptr(), file.len(), selection, out.as_mut_ptr(), out.len()) }.answered()
+pub fn cut(settings: crate::Settings, file: &[u8], selection: Selection, out: &mut [u8]) -> Result<Length, Refusal> {
+    unsafe { tfk_cut(settings.into(), file.as_ptr(), file.len(), selection, out.as_mut_ptr(), out.len()) }.answered()
 }
 
-pub fn join(order: Order, first: &[u8], second: &[u8], out: &mut [u8]) -> Result<Length, Refusal> {
+pub fn join(settings: crate::Settings, first: &[u8], second: &[u8], out: &mut [u8]) -> Result<Length, Refusal> {
     unsafe {
         let (f, s) = (first.as_ptr(), second.as_ptr());
-        tfk_join(settings(order), f, first.len(), s, second.len(), out.as_mut_ptr(), out.len())
+        tfk_join(settings.into(), f, first.len(), s, second.len(), out.as_mut_ptr(), out.len())
     }
     .answered()
 }
 
-pub fn pair_place(order: Order, first: &[u8], second: &[u8], n: usize) -> Result<PairPart, Refusal> {
-    unsafe { tfk_pair_place(settings(order), first.as_ptr(), first.len(), second.as_ptr(), second.len(), n) }.answered()
+pub fn pair_place(settings: crate::Settings, first: &[u8], second: &[u8], n: usize) -> Result<PairPart, Refusal> {
+    unsafe { tfk_pair_place(settings.into(), first.as_ptr(), first.len(), second.as_ptr(), second.len(), n) }.answered()
 }
 
-pub fn pair_variable(order: Order, first: &[u8], second: &[u8], n: usize, number: u32) -> Result<Value, Refusal> {
+pub fn pair_variable(
+    settings: crate::Settings,
+    first: &[u8],
+    second: &[u8],
+    n: usize,
+    number: u32,
+) -> Result<Value, Refusal> {
     unsafe {
         let (f, s) = (first.as_ptr(), second.as_ptr());
-        tfk_pair_variable(settings(order), f, first.len(), s, second.len(), n, number)
+        tfk_pair_variable(settings.into(), f, first.len(), s, second.len(), n, number)
     }
     .answered()
 }

@@ -17,13 +17,14 @@ use std::fmt;
 pub enum Refusal {
     /// A file, or a join's result, is longer than [`LONGEST`](crate::LONGEST).
     TooLong = 1,
-    /// A range with low above high, or more than 8 ranges. (A wrong byte order is in the same row; [`Order`](crate::Order) has none.)
+    /// A range with low above high, or more than 8 ranges. (A wrong byte order and a wrong base are in the same row;
+    /// [`Settings`](crate::Settings) have neither.)
     BadArgument = 2,
     /// The head differs or is cut short.
     BadHead = 3,
     /// The description has no empty line.
     NoEmptyLine = 4,
-    /// An ended `R ` line breaks its form, or there is a second `R ` or `status ` line.
+    /// An ended `R ` line breaks its form in the chosen [`Base`](crate::Base), or there is a second `R ` or `status ` line.
     BadLine = 5,
     /// 1 to 5 bytes remain where a frame head should start, and do not begin with two bytes of 0.
     ShortHead = 6,
@@ -92,11 +93,11 @@ impl Refusal {
         match self {
             Refusal::TooLong => "a file, or a join's result, is longer than 67,108,864 bytes",
             Refusal::BadArgument => {
-                "an argument is wrong: byte order not 0 or 1; a range with low above high; more than 8 ranges"
+                "an argument is wrong: byte order not 0 or 1; base not 10 or 16; a range with low above high; more than 8 ranges"
             }
             Refusal::BadHead => "the head differs or is cut short",
             Refusal::NoEmptyLine => "the description has no empty line",
-            Refusal::BadLine => "an ended `R ` line breaks its form, or a second `R ` or `status ` line",
+            Refusal::BadLine => "an ended `R ` line breaks its form in the chosen base, or a second `R ` or `status ` line",
             Refusal::ShortHead => "1 to 5 bytes remain where a frame head should start",
             Refusal::DataPastFile => "a frame's data runs past the file",
             Refusal::BadLetter => "a block letter other than R, M, V",

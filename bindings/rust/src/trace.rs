@@ -1,7 +1,7 @@
 //! A GDB trace and its frames.
 use crate::blocks::{Blocks, Manner};
 use crate::lines::{Line, LineKind, Lines};
-use crate::{raw, Order, Refusal};
+use crate::{raw, Order, Refusal, Settings};
 
 /// What every GDB trace starts with.
 pub(crate) const HEAD: &[u8] = b"\x7fTRACE0\n";
@@ -25,7 +25,7 @@ pub struct Trace<'a> {
 }
 
 impl<'a> Trace<'a> {
-    /// The trace in a file, whose numbers have this byte order.
+    /// The trace in a file, read with these settings; an [`Order`] alone is read with base 16.
     ///
     /// ```
     /// use tufakpeni::{Order, Refusal, Trace};
@@ -35,11 +35,12 @@ impl<'a> Trace<'a> {
     /// assert_eq!(Trace::open(Order::Little, &file[..14]).unwrap_err(), Refusal::ShortHead);
     /// # Ok::<(), Refusal>(())
     /// ```
-    pub fn open(order: Order, file: &'a [u8]) -> Result<Trace<'a>, Refusal> {
-        let count = raw::frame_count(order, file)?.count;
+    pub fn open(settings: impl Into<Settings>, file: &'a [u8]) -> Result<Trace<'a>, Refusal> {
+        let settings = settings.into();
+        let count = raw::frame_count(settings, file)?.count;
         let mut frames = vec![raw::Frame { tracepoint: 0, place: 0, size: 0 }; count];
-        raw::frame_table(order, file, &mut frames)?;
-        let manner = Manner { order, register_line: &[] };
+        raw::frame_table(settings, file, &mut frames)?;
+        let manner = Manner { settings, register_line: &[] };
         let mut trace = Trace { file, manner, frames };
         trace.manner.register_line = trace.register_line();
         Ok(trace)
@@ -53,9 +54,14 @@ impl<'a> Trace<'a> {
         }
     }
 
+    /// The settings that it was opened with.
+    pub fn settings(&self) -> Settings {
+        self.manner.settings
+    }
+
     /// The byte order that it was opened with.
     pub fn order(&self) -> Order {
-        self.manner.order
+        self.settings().order
     }
 
     /// The head and the description, with the empty line that closes it.
@@ -81,7 +87,7 @@ impl<'a> Trace<'a> {
     /// # Ok::<(), tufakpeni::Refusal>(())
     /// ```
     pub fn is_marked(&self) -> bool {
-        raw::end_mark(self.order(), self.file).expect("the file was accepted").marked == 1
+        raw::end_mark(self.settings(), self.file).expect("the file was accepted").marked == 1
     }
 
     /// The lines of the description, without the closing empty line.
@@ -89,20 +95,20 @@ impl<'a> Trace<'a> {
     /// ```
     /// use tufakpeni::{LineKind, Order, Trace};
     ///
-    /// let trace = Trace::open(Order::Little, b"\x7fTRACE0\nR 776\nstatus 0\n\n")?;
+    /// let trace = Trace::open(Order::Little, b"\x7fTRACE0\nR 308\nstatus 0\n\n")?;
     /// let kinds: Vec<LineKind> = trace.lines().map(|line| line.kind).collect();
     /// assert_eq!(kinds, [LineKind::R, LineKind::Status]);
-    /// assert_eq!(trace.lines().next().unwrap().bytes, b"R 776");
+    /// assert_eq!(trace.lines().next().unwrap().bytes, b"R 308");
     /// # Ok::<(), tufakpeni::Refusal>(())
     /// ```
     pub fn lines(&self) -> Lines<'a> {
         let closing = self.opening().len() - 1;
-        Lines::new(self.order(), self.file, HEAD.len()..closing)
+        Lines::new(self.settings(), self.file, HEAD.len()..closing)
     }
 
     /// Line j of the description. The opening alone is a trace, so that the library is asked there.
     pub fn line(&self, j: usize) -> Result<Line<'a>, Refusal> {
-        let line = raw::line_place(self.order(), self.opening(), j)?;
+        let line = raw::line_place(self.settings(), self.opening(), j)?;
         Ok(Line::new(&line, line.place, self.file))
     }
 
@@ -157,7 +163,7 @@ impl<'a> Trace<'a> {
 
 /// A frame of a trace: what was collected at one hit of a tracepoint.
 ///
-/// Its blocks depend on the byte order, the R line and its data alone. So the library is asked about them in a trace that has the
+/// Its blocks depend on the settings, the R line and its data alone. So the library is asked about them in a trace that has the
 /// R line and this frame and nothing else, and the place it answers is moved to the file: a question costs in the order of the
 /// frame, where in the file it would cost a reading of all of it.
 #[derive(Clone, Copy, Debug)]
@@ -224,7 +230,7 @@ impl<'a> Frame<'a> {
     /// The bytes of its earliest `R` block.
     pub fn registers(&self) -> Result<&'a [u8], Refusal> {
         let (alone, data) = self.alone();
-        let found = raw::registers_place(self.manner.order, &alone, 0)?;
+        let found = raw::registers_place(self.manner.settings, &alone, 0)?;
         Ok(self.moved(found, data))
     }
 
@@ -242,7 +248,7 @@ impl<'a> Frame<'a> {
     /// ```
     pub fn memory(&self, address: u64) -> Result<&'a [u8], Refusal> {
         let (alone, data) = self.alone();
-        let found = raw::memory_place(self.manner.order, &alone, 0, address)?;
+        let found = raw::memory_place(self.manner.settings, &alone, 0, address)?;
         Ok(self.moved(found, data))
     }
 
@@ -258,6 +264,6 @@ impl<'a> Frame<'a> {
     /// ```
     pub fn variable(&self, number: u32) -> Result<i64, Refusal> {
         let (alone, _) = self.alone();
-        Ok(raw::variable(self.manner.order, &alone, 0, number)?.value)
+        Ok(raw::variable(self.manner.settings, &alone, 0, number)?.value)
     }
 }

@@ -5,7 +5,8 @@
 --   room; no cut or join in it is then refused. Results are equal when their lengths and all bytes up to those lengths are."
 --
 -- and with C-11: "In demand 3 a cut by A then B ends in the mark, if any; the keep and drop lengths now add to the file, one opening and any mark;
--- the unit is the bare unmarked opening." Those three sentences stand below as they now read.
+-- the unit is the bare unmarked opening." Those three sentences stand below as they now read. With C-18: "Demand 3 holds for traces read under the same
+-- settings": s, byte order and base, is that of every file and every call in a sentence.
 --
 -- A plan is a file or a cut or join of plans, each with its lent output (Plan.antt). `Given`, `JoinsFit` and `OutputsFit` are the premises: the traces and
 -- selections, the limit at each join, the room at each call. Of two plans in a sentence the first's joins are to be within the limit; the second's then are.

@@ -52,6 +52,7 @@ bareOpening ls = file (opening ls) (traceOf ls [] false)
 abbrev pub markedOpening : List (List ℕ) → Plan
 markedOpening ls = file (opening ls ++ mark) (traceOf ls [] true)
 
+-- all calls of a plan are given the same settings
 module _ (s : Settings) where
   -- the bytes that a plan's last call leaves, up to the returned length
   unfoldable pub result : Plan → List ℕ
@@ -79,7 +80,7 @@ module _ (s : Settings) where
 
 -- ---- the premises of demand 3
 
--- "all traces accepted in one byte order with identical openings, and all selections"
+-- "all traces accepted in one byte order with identical openings, and all selections"; with C-18 "traces read under the same settings", byte order and base
 abbrev pub Given : Settings → Format → List (List ℕ) → Plan → Type 0
 Given s f ls (file b t) = Bytes b × (read s b ≡ accepted (f, t)) × (t .lines ≡ ls)
 Given s f ls (cutting c out p) = Given s f ls p × (valid c ≡ true)

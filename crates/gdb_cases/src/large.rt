@@ -3,7 +3,6 @@ use crate::file;
 use crate::show;
 use crate::steps;
 use crate::table;
-use gdb_format::Settings;
 
 // A built file's bytes with 0s behind them.
 fn extended(bytes: [u8; 256]) -> [u8; 65561] {
@@ -24,7 +23,8 @@ fn memory(order: u8, pieces: &[u8], len: usize) {
     show::text(pieces);
     show::number(b" and 0s up to byte ", len);
     show::text(b":");
-    steps::summary(Settings { order }, table::part(&all, 0, len));
+    let settings = gdb_format::default_settings(order);
+    steps::summary(settings, table::part(&all, 0, len));
     show::text(b"\n");
 }
 

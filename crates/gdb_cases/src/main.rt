@@ -1,4 +1,5 @@
-// Runs the rows of a table of cases, in both byte orders, and writes the table with the answers.
+// Runs the rows of a table of cases, in both byte orders, and writes the table with the answers. The R line is read in base 16 where a row
+// says nothing of the base.
 //
 // Refusal 1 is tried in paper_cases/specs/Limit.antt: 67,108,864 bytes fit no array of a program, and there is no heap.
 //
@@ -7,6 +8,7 @@
 //                 order of the run, c9 cut to 9 bytes
 //   !2 PIECES     the same, asked with the byte order 2
 //   + PIECES      the same, and what its reading answers
+//   %10 PIECES    the same with the base 10
 //   ? PIECES      the same, and its kind as a line
 //   & PIECES      the second file
 //   * CALL        a cut of the first file, a join of both, or a question about the pair: edit.rt and pair.rt
@@ -42,18 +44,18 @@ fn asked<'a>(settings: Settings, a: &'a [u8], b: &'a [u8], t: &[u8]) {
 }
 
 // A row's answer about the files that stand now.
-fn answered(first: File, second: File, order: u8, t: &[u8]) {
+fn answered(first: File, second: File, settings: Settings, t: &[u8]) {
     let one = first.bytes;
     let other = second.bytes;
     let a = table::part(&one, 0, first.len);
     let b = table::part(&other, 0, second.len);
-    asked(Settings { order }, a, b, t);
+    asked(settings, a, b, t);
 }
 
 fn run(order: u8, t: &[u8]) {
     let mut first = file::empty();
     let mut second = file::empty();
-    let mut given = order;
+    let mut given = gdb_format::default_settings(order);
     let mut at: usize = 0;
     while at < t.len() {
         let end = table::line_end(t, at);

@@ -1,9 +1,10 @@
-// What a row gives: the first file, the second, and the byte order of the calls. `order` is the run's.
+// What a row gives: the first file, the second, and the settings of the calls. `order` is the run's.
 use crate::file;
 use crate::file::File;
 use crate::file::ROOM;
 use crate::show;
 use crate::table;
+use gdb_format::Settings;
 
 // The file of the row's pieces. One that finds no room is told at once.
 fn built(order: u8, t: &[u8]) -> File {
@@ -17,7 +18,7 @@ fn built(order: u8, t: &[u8]) -> File {
 // The first file after the row, which was `f` before.
 pub(crate) fn first(f: File, order: u8, t: &[u8]) -> File {
     match table::byte(t, 0) {
-        b'=' | b'!' | b'+' | b'?' => built(order, t),
+        b'=' | b'!' | b'+' | b'%' | b'?' => built(order, t),
         _ => f,
     }
 }
@@ -30,14 +31,17 @@ pub(crate) fn second(f: File, order: u8, t: &[u8]) -> File {
     f
 }
 
-// The byte order that is given: each first file states it anew.
-pub(crate) fn given(before: u8, order: u8, t: &[u8]) -> u8 {
+// The settings that are given: each first file states them anew.
+pub(crate) fn given(before: Settings, order: u8, t: &[u8]) -> Settings {
+    let stated = table::number_after(t, 0);
+    let number = (stated.value % 256) as u8;
     match table::byte(t, 0) {
-        b'=' | b'+' | b'?' => order,
-        b'!' => {
-            let wrong = table::number_after(t, 0);
-            (wrong.value % 256) as u8
-        }
+        b'=' | b'+' | b'?' => gdb_format::default_settings(order),
+        b'!' => gdb_format::default_settings(number),
+        b'%' => Settings {
+            order,
+            base: number,
+        },
         _ => before,
     }
 }

@@ -99,7 +99,7 @@ fn at(format: Format, s: &[u8], t: &[u8]) {
 // The questions: summary or +, of the whole file; ?, of the file as a line; and those about a place.
 pub(crate) fn question(settings: Settings, s: &[u8], t: &[u8]) {
     match table::byte(t, 0) {
-        b'+' | b's' => summary(settings, s),
+        b'+' | b'%' | b's' => summary(settings, s),
         b'?' => show::line_kind(gdb_format::line_kind(s)),
         _ => match gdb_format::format_of(settings) {
             Checked::Known(format) => at(format, s, t),

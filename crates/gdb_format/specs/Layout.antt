@@ -1,43 +1,59 @@
 -- Which traces the layout admits.
 -- Assumes nothing: these are definitions.
 use mathlib.Core.Path.{_≡_}
-use mathlib.Core.Bool.{true}
+use mathlib.Core.Bool.{true, cond}
+use mathlib.Core.Logic.{_⊎_}
 use mathlib.Core.Option.{Option, some}
-use Prim.Native.Nat.{ℕ, _+_, _*_, _^_, _<_, _≤_}
+use Prim.Native.Nat.{ℕ, _+_, _-_, _*_, _^_, _<_, _≤_}
 use mathlib.Core.List.{List, [], _∷_}
 use lib.ListN.{length, drop}
+use lib.Dec.{leb}
 use Rattle.refusals.specs.Refusal.{limit}
 use Rattle.fields.specs.Lists.{Each, AtMostOne}
 use Rattle.fields.specs.Signed.{Signed64}
 use Rattle.gdb_format.specs.Trace.{Block, registers, memory, variable, Frame, Trace, dataOf, encode}
 use Rattle.gdb_format.specs.Lines.{isRegister, isStatus, registerSize}
+use Rattle.gdb_format.specs.Settings.{radix}
+use Rattle.gdb_format.specs.declared.Base.{Base}
+use Rattle.gdb_format.specs.declared.Base.the-variants.{Ten, Sixteen}
 use Rattle.gdb_format.specs.declared.Format.{Format}
 
 -- a line may hold every byte but 0A
 abbrev pub NoEnd : List ℕ → Type 0
 NoEnd l = Each (λ x. x ≡ 0x0A → ⊥) l
 
--- the byte x is the digit of the value v
-abbrev pub IsDigit : ℕ → ℕ → Type 0
-IsDigit x v = (v < 10) × (x ≡ 0x30 + v)
+-- how a value is written as a digit: from `0` on, and above 9 from a letter on
+abbrev pub glyph : ℕ → ℕ → ℕ
+glyph a v = cond (leb v 9) (0x30 + v) (a + (v - 10))
+
+-- the byte x is the digit of the value v in a base, in either case
+abbrev pub IsDigit : ℕ → ℕ → ℕ → Type 0
+IsDigit base x v = (v < base) × ((x ≡ glyph 0x61 v) ⊎ (x ≡ glyph 0x41 v))
 
 -- the bytes are the digits of these values, one by one
-abbrev pub Spelled : List ℕ → List ℕ → Type 0
-Spelled [] [] = Unit {0}
-Spelled [] (v ∷ vs) = ⊥
-Spelled (x ∷ xs) [] = ⊥
-Spelled (x ∷ xs) (v ∷ vs) = IsDigit x v × Spelled xs vs
+abbrev pub Spelled : ℕ → List ℕ → List ℕ → Type 0
+Spelled base [] [] = Unit {0}
+Spelled base [] (v ∷ vs) = ⊥
+Spelled base (x ∷ xs) [] = ⊥
+Spelled base (x ∷ xs) (v ∷ vs) = IsDigit base x v × Spelled base xs vs
 
--- the number that digits of these values make, after those that made n
+-- the number that digits of these values make: each counts times the base for every digit behind it
 abbrev pub made : ℕ → List ℕ → ℕ
-made n [] = n
-made n (v ∷ vs) = made (n * 10 + v) vs
+made base [] = 0
+made base (v ∷ vs) = v * base ^ length vs + made base vs
 
--- the line says n: after `R ` stand one to five decimal digits and nothing else, value 0 to 65,535
+-- the bytes are digits of a base, and spell n
+abbrev pub Spells : ℕ → List ℕ → ℕ → Type 0
+Spells base d n = (vs : List ℕ) × Spelled base d vs × (made base vs ≡ n)
+
+-- how many digits, and which value: in base 10 one to five, value 0 to 65,535; in base 16 one to four
+abbrev pub Form : Base → ℕ → ℕ → Type 0
+Form Ten k n = (1 ≤ k) × (k ≤ 5) × (n ≤ 65535)
+Form Sixteen k n = (1 ≤ k) × (k ≤ 4)
+
+-- the line says n: after `R ` stand digits of the base, in their form, and nothing else
 abbrev pub Says : Format → List ℕ → ℕ → Type 0
-Says f l n =
-    let d = drop 2 l in
-    (1 ≤ length d) × (length d ≤ 5) × ((vs : List ℕ) × Spelled d vs × (made 0 vs ≡ n)) × (n ≤ 65535)
+Says f l n = let d = drop 2 l in Form (f .base) (length d) n × Spells (radix (f .base)) d n
 
 -- a line is not empty and holds no 0A, and an `R ` line says a number
 abbrev pub LineFits : Format → List ℕ → Type 0

@@ -1,4 +1,5 @@
 pub mod Settings
+pub mod SettingsLaws
 pub mod Trace
 pub mod FrameBytes
 pub mod Lines

@@ -1,19 +1,23 @@
 -- The reader's tests of the description's lines, against the rules: what an R line says, and that the tests line by line let through just the lines that fit.
 -- Assumes nothing.
-use mathlib.Core.Path.{_≡_, refl, sym, _∙_}
-use mathlib.Core.Bool.{Bool, true, false, cond, not, _&&_, _||_, or-false}
+use mathlib.Core.Path.{_≡_, refl, sym, ap, _∙_}
+use mathlib.Core.Bool.{Bool, true, false, cond, not, _&&_, _||_, and-false, or-false}
 use mathlib.Core.Option.{Option, none, some, Option·some-injective}
-use mathlib.Core.Logic.{_↔_, inl, inr}
-use Prim.Native.Nat.{ℕ, _+_, _-_, _*_, _<_, _≤_}
+use mathlib.Core.Logic.{_↔_, _⊎_, inl, inr}
+use Prim.Native.Nat.{ℕ, suc, _+_, _-_, _*_, _^_, _<_, _≤_}
+use native.Mathlib.Nat.{pow-zero, pow-succ', add-mul, mul-assoc, pow-le-pow-right, mul-le-mul-right}
 use native.Mathlib.Omega.{arith}
 use mathlib.Core.List.{List, [], _∷_, _++_}
 use lib.ListN.{length, drop}
 use lib.Dec.{leb, eqb}
-use borrow.Author.Tests.{leb-true, le-leb, eqb-true}
+use borrow.Author.Tests.{leb-true, leb-false, le-leb, lt-leb, eqb-true}
 use Rattle.fields.specs.Lists.{Each, Some, EachAfter, one, count, AtMostOne, first-of, first-then, clash}
 use Rattle.fields.specs.Word.{starts, and-inv}
-use Rattle.gdb_format.specs.Lines.{isRegister, isStatus, isDigit, numeral, limited, sizeOf, isSome, anyLine, mayFollow, registerSize}
-use Rattle.gdb_format.specs.Layout.{NoEnd, IsDigit, Spelled, made, Says, LineFits, LinesFit}
+use Rattle.gdb_format.specs.Lines.{isRegister, isStatus, mostDigits, between, digit, numeral, limited, sizeOf, isSome, anyLine, mayFollow, registerSize}
+use Rattle.gdb_format.specs.Layout.{NoEnd, IsDigit, Spelled, made, Spells, Form, Says, LineFits, LinesFit}
+use Rattle.gdb_format.specs.Settings.{radix}
+use Rattle.gdb_format.specs.declared.Base.{Base}
+use Rattle.gdb_format.specs.declared.Base.the-variants.{Ten, Sixteen}
 use Rattle.gdb_format.specs.declared.Format.{Format}
 
 -- ---- what an R line says
@@ -22,6 +26,10 @@ cond-some : {A : Type 0} (t : Bool) (x : Option A) (a : A) → cond t x none ≡
 cond-some true x a e = (refl, e)
 cond-some false x a e = clash (cc)
 
+none-or : {A : Type 0} (t : Bool) (x : Option A) (a : A) → cond t none x ≡ some a → (t ≡ false) × (x ≡ some a)
+none-or true x a e = clash (cc)
+none-or false x a e = (refl, e)
+
 limited-some : (x : Option ℕ) (n : ℕ) → limited x ≡ some n → (x ≡ some n) × (n ≤ 65535)
 limited-some none n e = clash (cc)
 limited-some (some v) n e =
@@ -29,33 +37,120 @@ limited-some (some v) n e =
     let i : v ≡ n = Option·some-injective _ _ (q .1) in
     (q .1, rw (← i) (leb-true v 65535 (q .0)))
 
-digit-is : (x : ℕ) → isDigit x ≡ true → IsDigit x (x - 0x30)
-digit-is x e =
-    let q = and-inv (leb 0x30 x) (leb x 0x39) e in
-    let a : 0x30 ≤ x = leb-true 0x30 x (q .0) in
-    let b : x ≤ 0x39 = leb-true x 0x39 (q .1) in
-    (omega arith, omega arith)
+-- ---- a digit is read as it is written
 
-is-digit : (x v : ℕ) → IsDigit x v → (isDigit x ≡ true) × (x - 0x30 ≡ v)
-is-digit x v h = (rw (le-leb 0x30 x (omega (arith, h .1)), le-leb x 0x39 (omega (arith, h .0, h .1))), omega (arith, h .1))
+pub radix-most : (b : Base) → radix b ≤ 16
+radix-most Ten = omega arith
+radix-most Sixteen = omega arith
 
-abbrev Spells : ℕ → ℕ → List ℕ → Type 0
-Spells v n d = (vs : List ℕ) × Spelled d vs × (made v vs ≡ n)
+pub between-in : (low high x : ℕ) → low ≤ x → x ≤ high → between low high x ≡ true
+between-in low high x a b = rw (le-leb low x a, le-leb x high b)
 
-spelled-of : (v n : ℕ) (d : List ℕ) → numeral v d ≡ some n → Spells v n d
-spelled-of v n [] e = ([], tt, Option·some-injective _ _ e)
-spelled-of v n (x ∷ d) e =
-    let q = cond-some (isDigit x) (numeral (v * 10 + (x - 0x30)) d) n e in
-    let r = spelled-of (v * 10 + (x - 0x30)) n d (q .1) in
-    ((x - 0x30) ∷ r .0, (digit-is x (q .0), r .1), r .2)
+pub between-below : (low high x : ℕ) → x < low → between low high x ≡ false
+between-below low high x a = rw (lt-leb low x a)
 
-of-spelled : (v : ℕ) (d vs : List ℕ) → Spelled d vs → numeral v d ≡ some (made v vs)
-of-spelled v [] [] h = refl
-of-spelled v [] (w ∷ vs) h = absurd h
-of-spelled v (x ∷ d) [] h = absurd h
-of-spelled v (x ∷ d) (w ∷ vs) h =
-    let q = is-digit x w (h .0) in
-    rw (q .0, q .1) (of-spelled (v * 10 + w) d vs (h .1))
+pub between-above : (low high x : ℕ) → high < x → between low high x ≡ false
+between-above low high x a = rw (lt-leb x high a) (and-false (leb low x))
+
+between-inv : (low high x : ℕ) → between low high x ≡ true → (low ≤ x) × (x ≤ high)
+between-inv low high x e = let q = and-inv (leb low x) (leb x high) e in (leb-true low x (q .0), leb-true x high (q .1))
+
+module _ (base : ℕ) (most : base ≤ 16) where
+  digit-is : (x : ℕ) → digit x < base → IsDigit base x (digit x)
+  digit-is x h = by (between 0x30 0x39 x) (between 0x41 0x46 x) (between 0x61 0x66 x) refl refl refl h
+    where
+      by : (t u w : Bool) → between 0x30 0x39 x ≡ t → between 0x41 0x46 x ≡ u → between 0x61 0x66 x ≡ w
+          → cond t (x - 0x30) (cond u (x - 0x41 + 10) (cond w (x - 0x61 + 10) 16)) < base
+          → IsDigit base x (cond t (x - 0x30) (cond u (x - 0x41 + 10) (cond w (x - 0x61 + 10) 16)))
+      by true u w i j k h = let q = between-inv 0x30 0x39 x i in (h, inl (rw (le-leb (x - 0x30) 9 (omega (arith, q .1))) (omega (arith, q .0))))
+      by false true w i j k h = let q = between-inv 0x41 0x46 x j in (h, inr (rw (lt-leb (x - 0x41 + 10) 9 (omega arith)) (omega (arith, q .0))))
+      by false false true i j k h = let q = between-inv 0x61 0x66 x k in (h, inl (rw (lt-leb (x - 0x61 + 10) 9 (omega arith)) (omega (arith, q .0))))
+      by false false false i j k h = absurd (omega arith)
+
+  is-digit : (x v : ℕ) → IsDigit base x v → digit x ≡ v
+  is-digit x v h = by (leb v 9) refl (h .1)
+    where
+      low : v ≤ 9 → x ≡ 0x30 + v → digit x ≡ v
+      low l e = rw (between-in 0x30 0x39 x (omega arith) (omega arith)) (omega arith)
+
+      by : (t : Bool) → leb v 9 ≡ t → (x ≡ cond t (0x30 + v) (0x61 + (v - 10))) ⊎ (x ≡ cond t (0x30 + v) (0x41 + (v - 10))) → digit x ≡ v
+      by true i (inl e) = low (leb-true v 9 i) e
+      by true i (inr e) = low (leb-true v 9 i) e
+      by false i (inl e) =
+          let g : 9 < v = leb-false v 9 i in
+          let n : between 0x41 0x46 x ≡ false = between-above 0x41 0x46 x (omega arith) in
+          rw (between-above 0x30 0x39 x (omega arith), n, between-in 0x61 0x66 x (omega arith) (omega (arith, h .0))) (omega arith)
+      by false i (inr e) =
+          let g : 9 < v = leb-false v 9 i in
+          rw (between-above 0x30 0x39 x (omega arith), between-in 0x41 0x46 x (omega arith) (omega (arith, h .0))) (omega arith)
+
+  -- ---- and so is a number
+
+  -- a digit more behind v: what was before counts times the base, and the digit by the digits behind it
+  place : (v w k m : ℕ) → (v * base + w) * base ^ k + m ≡ v * base ^ suc k + (w * base ^ k + m)
+  place v w k m = rw (pow-succ' base k, add-mul (v * base) w (base ^ k), mul-assoc v base (base ^ k)) (omega arith)
+
+  none-more : (v : ℕ) → v * base ^ 0 + 0 ≡ v
+  none-more v = rw (pow-zero base) (omega arith)
+
+  -- the bytes are digits, and behind those that gave v they make n
+  abbrev Continues : ℕ → List ℕ → ℕ → Type 0
+  Continues v d n = (vs : List ℕ) × Spelled base d vs × (v * base ^ length vs + made base vs ≡ n)
+
+  spelled-of : (v n : ℕ) (d : List ℕ) → numeral base v d ≡ some n → Continues v d n
+  spelled-of v n [] e = ([], tt, none-more v ∙ Option·some-injective _ _ e)
+  spelled-of v n (x ∷ d) e =
+      let q = none-or (leb base (digit x)) (numeral base (v * base + digit x) d) n e in
+      let r = spelled-of (v * base + digit x) n d (q .1) in
+      (digit x ∷ r .0, (digit-is x (leb-false base (digit x) (q .0)), r .1), sym (place v (digit x) (length (r .0)) (made base (r .0))) ∙ r .2)
+
+  of-spelled : (v : ℕ) (d vs : List ℕ) → Spelled base d vs → numeral base v d ≡ some (v * base ^ length vs + made base vs)
+  of-spelled v [] [] h = ap some (sym (none-more v))
+  of-spelled v [] (w ∷ vs) h = absurd h
+  of-spelled v (x ∷ d) [] h = absurd h
+  of-spelled v (x ∷ d) (w ∷ vs) h =
+      rw (is-digit x w (h .0), lt-leb base w (h .0 .0)) (of-spelled (v * base + w) d vs (h .1) ∙ ap some (place v w (length vs) (made base vs)))
+
+  number-of : (n : ℕ) (d : List ℕ) → numeral base 0 d ≡ some n → Spells base d n
+  number-of n d e = let q = spelled-of 0 n d e in (q .0, q .1, omega (arith, q .2))
+
+  of-number : (n : ℕ) (d : List ℕ) → Spells base d n → numeral base 0 d ≡ some n
+  of-number n d s = let i : 0 * base ^ length (s .0) + made base (s .0) ≡ n = omega (arith, s .2) in of-spelled 0 d (s .0) (s .1) ∙ ap some i
+
+-- a number is below what a digit more in front of it would count
+small : (base : ℕ) (d vs : List ℕ) → Spelled base d vs → made base vs < base ^ length d
+small base [] [] h = rw (pow-zero base) (omega arith)
+small base [] (w ∷ vs) h = absurd h
+small base (x ∷ d) [] h = absurd h
+small base (x ∷ d) (w ∷ vs) h =
+    let p = base ^ length d in
+    let i : length vs ≡ length d = as-many d vs (h .1) in
+    let m : (w + 1) * p ≤ base * p = mul-le-mul-right {m = w + 1} {n = base} p (omega (arith, h .0 .0)) in
+    rw (i, pow-succ' base (length d)) (omega (arith, m, add-mul w 1 p, small base d vs (h .1)))
+  where
+    as-many : (d vs : List ℕ) → Spelled base d vs → length vs ≡ length d
+    as-many [] [] h = refl
+    as-many [] (w ∷ vs) h = absurd h
+    as-many (x ∷ d) [] h = absurd h
+    as-many (x ∷ d) (w ∷ vs) h = ap suc (as-many d vs (h .1))
+
+-- four digits of base 16 spell 65,535 at most
+four-digits : (d : List ℕ) (n : ℕ) → length d ≤ 4 → Spells 16 d n → n ≤ 65535
+four-digits d n h s =
+    let j : 16 ^ length d ≤ 16 ^ 4 = pow-le-pow-right {n = 16} (omega arith) {i = length d} {j = 4} h in
+    omega (arith, small 16 d (s .0) (s .1), s .2)
+
+-- the reader's tests of how many digits there are and of the value, and the form
+abbrev Tested : Base → ℕ → ℕ → Type 0
+Tested b k n = (1 ≤ k) × (k ≤ mostDigits b) × (n ≤ 65535)
+
+form-of : (b : Base) (k n : ℕ) → Tested b k n → Form b k n
+form-of Ten k n h = h
+form-of Sixteen k n h = (h .0, h .1)
+
+of-form : (b : Base) (d : List ℕ) (n : ℕ) → Form b (length d) n → Spells (radix b) d n → Tested b (length d) n
+of-form Ten d n h s = h
+of-form Sixteen d n h s = (h .0, h .1, four-digits d n (h .1) s)
 
 -- the number that is read is the number that the line says
 pub size-says : (f : Format) (l : List ℕ) (n : ℕ) → (sizeOf f l ≡ some n) ↔ Says f l n
@@ -63,16 +158,22 @@ size-says f l n = (forth, back)
   where
     forth : sizeOf f l ≡ some n → Says f l n
     forth e =
+        let b = f .base in
         let d = drop 2 l in
-        let q = cond-some (leb 1 (length d) && leb (length d) 5) (limited (numeral 0 d)) n e in
-        let r = and-inv (leb 1 (length d)) (leb (length d) 5) (q .0) in
-        let s = limited-some (numeral 0 d) n (q .1) in
-        (leb-true 1 (length d) (r .0), leb-true (length d) 5 (r .1), spelled-of 0 n d (s .0), s .1)
+        let q = cond-some (leb 1 (length d) && leb (length d) (mostDigits b)) (limited (numeral (radix b) 0 d)) n e in
+        let r = and-inv (leb 1 (length d)) (leb (length d) (mostDigits b)) (q .0) in
+        let s = limited-some (numeral (radix b) 0 d) n (q .1) in (
+          form-of b (length d) n (leb-true 1 (length d) (r .0), leb-true (length d) (mostDigits b) (r .1), s .1),
+          number-of (radix b) (radix-most b) n d (s .0),
+        )
 
     back : Says f l n → sizeOf f l ≡ some n
     back h =
+        let b = f .base in
         let d = drop 2 l in
-        rw (le-leb 1 (length d) (h .0), le-leb (length d) 5 (h .1), of-spelled 0 d (h .2 .0) (h .2 .1), h .2 .2, le-leb n 65535 (h .3))
+        let t = of-form b d n (h .0) (h .1) in
+        let m = of-number (radix b) (radix-most b) n d (h .1) in
+        rw (le-leb 1 (length d) (t .0), le-leb (length d) (mostDigits b) (t .1), m, le-leb n 65535 (t .2))
 
 -- ---- which line may follow which
 

@@ -7,6 +7,9 @@ use mathlib.Core.List.{List, [], _∷_}
 use lib.ListN.{length, drop}
 use lib.Dec.{leb}
 use Rattle.fields.specs.Word.{starts}
+use Rattle.gdb_format.specs.Settings.{radix}
+use Rattle.gdb_format.specs.declared.Base.{Base}
+use Rattle.gdb_format.specs.declared.Base.the-variants.{Ten, Sixteen}
 use Rattle.gdb_format.specs.declared.Format.{Format}
 use Rattle.gdb_format.specs.declared.LineKind.{LineKind}
 use Rattle.gdb_format.specs.declared.LineKind.the-variants as kind
@@ -39,24 +42,37 @@ kindOf l =
     (cond (isVariable l) kind.Variable
     (cond (isTarget l) kind.Target kind.Other))))
 
--- ---- the R line's number
+-- ---- the R line's number, in the base of the settings
 
-abbrev pub isDigit : ℕ → Bool
-isDigit d = leb 0x30 d && leb d 0x39
+abbrev pub mostDigits : Base → ℕ
+mostDigits Ten = 5
+mostDigits Sixteen = 4
 
--- the number that decimal digits spell, after those that gave v
-abbrev pub numeral : ℕ → List ℕ → Option ℕ
-numeral v [] = some v
-numeral v (d ∷ ds) = let more = numeral (v * 10 + (d - 0x30)) ds in cond (isDigit d) more none
+abbrev pub between : ℕ → ℕ → ℕ → Bool
+between low high x = leb low x && leb x high
+
+-- the value of a digit, letters in either case; 16, which is a digit's in no base, for every other byte
+abbrev pub digit : ℕ → ℕ
+digit x =
+    cond (between 0x30 0x39 x) (x - 0x30)
+    (cond (between 0x41 0x46 x) (x - 0x41 + 10)
+    (cond (between 0x61 0x66 x) (x - 0x61 + 10) 16))
+
+-- the number that digits of a base spell, after those that gave v
+abbrev pub numeral : ℕ → ℕ → List ℕ → Option ℕ
+numeral base v [] = some v
+numeral base v (x ∷ xs) = let more = numeral base (v * base + digit x) xs in cond (leb base (digit x)) none more
 
 -- the value where it is at most 65,535
 abbrev pub limited : Option ℕ → Option ℕ
 limited none = none
 limited (some v) = cond (leb v 65535) (some v) none
 
--- what stands after `R `: one to five decimal digits and nothing else, value 0 to 65,535
+-- what stands after `R `: digits of the base, not too many of them, and nothing else, value 0 to 65,535
 abbrev pub sizeOf : Format → List ℕ → Option ℕ
-sizeOf f l = let d = drop 2 l in cond (leb 1 (length d) && leb (length d) 5) (limited (numeral 0 d)) none
+sizeOf f l =
+    let d = drop 2 l in
+    cond (leb 1 (length d) && leb (length d) (mostDigits (f .base))) (limited (numeral (radix (f .base)) 0 d)) none
 
 -- ---- at most one `R ` line and one `status ` line
 

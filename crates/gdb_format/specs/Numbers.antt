@@ -1,6 +1,6 @@
 -- Which numbers a GDB file can be refused with: those of each part, and the law that its reader refuses with no other.
 -- Assumes nothing.
-use mathlib.Core.Path.{_≡_, refl, sym}
+use mathlib.Core.Path.{_≡_, refl, sym, _∙_}
 use mathlib.Core.Logic.{_↔_}
 use mathlib.Core.Option.{Option, none, some}
 use Prim.Native.Nat.{ℕ, zero, suc, _<_}
@@ -17,7 +17,8 @@ use Rattle.fields.specs.Refuses.{refusing-filling, refusing-in}
 use Rattle.fields.specs.declared.Order.the-variants.{Little}
 use Rattle.gdb_format.specs.Trace.{Trace, head}
 use Rattle.gdb_format.specs.Lines.{mayFollow, registerSize}
-use Rattle.gdb_format.specs.Settings.{orderOf, settingsOf}
+use Rattle.gdb_format.specs.Settings.{orderOf, baseOf, settingsOf}
+use Rattle.gdb_format.specs.SettingsLaws.{Names, settings-name}
 use Rattle.gdb_format.specs.Decode.{registerBlock, memoryBlock, variableBlock, blockOf, block, numbered, frameHead, blocks, frame, ending, frames}
 use Rattle.gdb_format.specs.Decode.{description, openingLines, trace, decode, read}
 use Rattle.gdb_format.specs.ExactFrame.{shorter-frame}
@@ -147,8 +148,22 @@ order-numbers zero = refuses-never
 order-numbers (suc zero) = refuses-never
 order-numbers (suc (suc n)) = refuses-with tt
 
+base-numbers : (n : ℕ) → Refuses (OneOf settingsNumbers) (baseOf n)
+base-numbers n = refuses-cond (eqb n 16) refuses-never (refuses-cond (eqb n 10) refuses-never (refuses-with tt))
+
 pub settings-numbers : (s : Settings) → Refuses (OneOf settingsNumbers) (settingsOf s)
-settings-numbers s = refuses-next (order-numbers (s .order)) (λ o. refuses-never)
+settings-numbers s = refuses-next (order-numbers (s .order)) (λ o. refuses-next (base-numbers (s .base)) (λ b. refuses-never))
+
+-- 2 exactly where they are the numbers of no format
+pub settings-wrong : (s : Settings) → (settingsOf s ≡ refused badArgument) ↔ ((f : Format) → Names s f → ⊥)
+settings-wrong s = (
+  (λ e f h. never (sym e ∙ (settings-name s f) .1 h)),
+  (λ h. by (settingsOf s) refl (settings-numbers s) (λ f e. h f ((settings-name s f) .0 e))),
+)
+  where
+    by : (x : Answer Format) → settingsOf s ≡ x → Refuses (OneOf settingsNumbers) x → ((f : Format) → settingsOf s ≡ accepted f → ⊥) → x ≡ refused badArgument
+    by (accepted f) e r h = absurd (h f e)
+    by (refused k) e r h = (refuses-in {P = λ k. _≡_ {A = Answer Format} (refused k) (refused badArgument)} settingsNumbers (refl, tt) r) .only k refl
 
 -- `read`, by what the settings name
 abbrev readAs : List ℕ → Answer Format → Answer (Format × Trace)

@@ -3,8 +3,8 @@ ghost use mathlib.Core.Path.{_≡_};
 ghost use mathlib.Core.List.{[]};
 ghost use Prim.Native.Nat.{_+_};
 ghost use lib.ListN.{length, drop};
-ghost use Rattle.gdb_format.specs.Settings.{settingsOf, formatMeaning};
-ghost use Rattle.gdb_format.specs.Lines.{isRegister, isStatus, kindOf, sizeOf};
+ghost use Rattle.gdb_format.specs.Settings.{defaultSettings, radix, formatIn, settingsOf, formatMeaning};
+ghost use Rattle.gdb_format.specs.Lines.{isRegister, isStatus, kindOf, mostDigits, digit, sizeOf};
 ghost use Rattle.gdb_format.specs.Decode.{description};
 ghost use Rattle.gdb_format.specs.Opening.{lineOf, digitsOf, registerStep, lineStep, openingMeaning, linesSeen, openingSeen};
 use fields::Order;
@@ -13,15 +13,30 @@ use refusals::BAD_HEAD;
 use refusals::BAD_LINE;
 use refusals::NO_EMPTY_LINE;
 
-// How a file is to be read, in the caller's numbers: the byte order is 0 for little, 1 for big.
+// How a file is to be read, in the caller's numbers: the byte order is 0 for little, 1 for big; the base of the R line is 16 or 10.
 #[repr(C)]
 pub struct Settings {
     pub order: u8,
+    pub base: u8,
+}
+
+// The settings of a caller that says nothing of the base.
+pub fn default_settings(order: u8) -> Settings
+    ensures { λ r. ⌜ r ≡ defaultSettings order ⌝ }
+{
+    Settings { order, base: 16 }
+}
+
+// The base of the R line's number.
+pub enum Base {
+    Ten,
+    Sixteen,
 }
 
 // The same, checked.
 pub struct Format {
     pub order: Order,
+    pub base: Base,
 }
 
 pub enum Checked {
@@ -29,18 +44,31 @@ pub enum Checked {
     Refused(u8),
 }
 
-// The settings' format; refused where the byte order is neither 0 nor 1.
+// The format of a known byte order; refused where the base is neither 16 nor 10.
+fn format_in(order: Order, base: u8) -> Checked
+    ensures { λ r. ⌜ formatMeaning r ≡ formatIn order base ⌝ }
+{
+    if base == 16 {
+        let base = Base::Sixteen;
+        return Checked::Known(Format { order, base });
+    }
+    if base == 10 {
+        let base = Base::Ten;
+        return Checked::Known(Format { order, base });
+    }
+    Checked::Refused(BAD_ARGUMENT)
+}
+
+// The settings' format; refused where the byte order is neither 0 nor 1, or the base neither 16 nor 10.
 pub fn format_of(settings: Settings) -> Checked
     ensures { λ r. ⌜ formatMeaning r ≡ settingsOf settings ⌝ }
 {
     let order = settings.order;
     if order == 0 {
-        return Checked::Known(Format {
-            order: Order::Little,
-        });
+        return format_in(Order::Little, settings.base);
     }
     if order == 1 {
-        return Checked::Known(Format { order: Order::Big });
+        return format_in(Order::Big, settings.base);
     }
     Checked::Refused(BAD_ARGUMENT)
 }
@@ -93,28 +121,60 @@ enum Digits {
     Bad,
 }
 
-// What stands after the `R ` of an R line: one to five decimal digits and nothing else, value 0 to 65,535.
+// What the place of a digit counts.
+fn radix_of(base: Base) -> usize
+    ensures { λ r. ⌜ r ≡ radix base ⌝ }
+{
+    match base {
+        Base::Ten => 10,
+        Base::Sixteen => 16,
+    }
+}
+
+// How many digits an R line may have.
+fn most_digits(base: Base) -> usize
+    ensures { λ r. ⌜ r ≡ mostDigits base ⌝ }
+{
+    match base {
+        Base::Ten => 5,
+        Base::Sixteen => 4,
+    }
+}
+
+// The value of a digit, letters in either case; 16, which is a digit's in no base, for every other byte.
+fn digit_value(b: u8) -> usize
+    ensures { λ r. ⌜ r ≡ digit b ⌝ }
+{
+    match b {
+        b'0'..=b'9' => (b - b'0') as usize,
+        b'A'..=b'F' => (b - b'A' + 10) as usize,
+        b'a'..=b'f' => (b - b'a' + 10) as usize,
+        _ => 16,
+    }
+}
+
+// What stands after the `R ` of an R line: digits of the base, one to five in base 10 and one to four in base 16, and nothing else, value 0 to 65,535.
 fn size_in(format: Format, l: &[u8]) -> Digits
     ensures { λ r. ⌜ r ≡ digitsOf (sizeOf format (now (l .entry))) ⌝ }
 {
+    let base = format.base;
+    let radix = radix_of(base);
+    let most = most_digits(base);
     let n = l.len();
     if n < 3 {
         return Digits::Bad;
     }
-    if 7 < n {
+    if most < n - 2 {
         return Digits::Bad;
     }
     let mut v: usize = 0;
     let mut k: usize = 2;
     while k < n {
-        let b = l[k];
-        if b < 48 {
+        let d = digit_value(l[k]);
+        if radix <= d {
             return Digits::Bad;
         }
-        if 57 < b {
-            return Digits::Bad;
-        }
-        v = v * 10 + (b - 48) as usize;
+        v = v * radix + d;
         k += 1;
     }
     if v <= 65535 {

@@ -7,8 +7,6 @@ use lib.Dec.{ltb}
 use Rattle.refusals.specs.Refusal.{noRoom}
 use Rattle.fields.specs.Output.{answer}
 use Rattle.fields.specs.Refuses.{Refuses, OneOf, refuses-never, refuses-with, refuses-cond, refuses-next, refuses-answer}
-use Rattle.fields.specs.declared.Order.the-variants.{Little}
-use Rattle.gdb_format.specs.Settings.{formatIn}
 use Rattle.gdb_format.specs.Decode.{read}
 use Rattle.gdb_format.specs.Numbers.{decodeNumbers, decode-numbers}
 use Rattle.gdb_listing.specs.Text.{listingLimit, listed, listingOf}
@@ -18,7 +16,7 @@ pub listed-numbers : (b : List ℕ) → Refuses (OneOf decodeNumbers) (listed b)
 unfolding listed read
 listed-numbers b =
     refuses-cond (ltb listingLimit (length b)) (refuses-with tt)
-    (refuses-next (refuses-next (decode-numbers (formatIn Little) b) (λ t. refuses-never)) (λ r. refuses-never))
+    (refuses-next (refuses-next (decode-numbers _ b) (λ t. refuses-never)) (λ r. refuses-never))
 
 -- 11 alone is answered
 pub listing-numbers : (b out : List ℕ) → Refuses (OneOf (noRoom ∷ [])) (answer (listingOf b) out)

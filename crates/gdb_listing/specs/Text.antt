@@ -10,6 +10,7 @@ use Rattle.fields.specs.Lists.{concatMap}
 use Rattle.fields.specs.Answer.{Answer, accepted, refused}
 use Rattle.gdb_format.specs.Trace.{Trace}
 use Rattle.gdb_format.specs.declared.Format.{Format}
+use Rattle.gdb_format.specs.Settings.{defaultSettings}
 use Rattle.gdb_format.specs.declared.Settings.{Settings}
 use Rattle.gdb_read.specs.Steps.{Row}
 use Rattle.gdb_frames.specs.Questions.{asked, table}
@@ -54,9 +55,9 @@ text (refused n) = refusedWord ++ ended n 0x0A
 abbrev pub listingLimit : ℕ
 listingLimit = 65536
 
--- the listing is of a little-endian file
+-- the listing is of a little-endian file, its R line in the default base
 abbrev pub little : Settings
-little = record { order = 0 }
+little = defaultSettings 0
 
 -- every frame of the table
 abbrev pub wholeTable : Format → Trace → Answer (List Row)

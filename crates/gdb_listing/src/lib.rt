@@ -13,7 +13,6 @@ ghost use Rattle.gdb_listing.specs.Written.{Puts};
 ghost use Rattle.gdb_listing.specs.Rows.{Listable};
 ghost use Rattle.gdb_listing.specs.Outcome.{Lists};
 use gdb_format::Format;
-use gdb_format::Settings;
 use gdb_read::FrameHead;
 use gdb_read::FrameStep;
 use gdb_read::Reading;
@@ -197,7 +196,7 @@ pub fn listing(file: &[u8], out: &mut [u8]) -> ListingAnswer
     if LIMIT < file.len() {
         return put_refusal(TOO_LONG, out);
     }
-    match gdb_read::read(Settings { order: 0 }, file) {
+    match gdb_read::read(gdb_format::default_settings(0), file) {
         Reading::Refused(n) => put_refusal(n, out),
         Reading::Accepted(o) => put_table(o.format, file, o.start, o.frames, out),
     }

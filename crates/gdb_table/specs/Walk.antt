@@ -9,6 +9,7 @@ use Rattle.fields.specs.Reader.{stepAt}
 use Rattle.fields.specs.Output.{fitting, counted}
 use Rattle.fields.specs.declared.Order.the-variants.{Little}
 use Rattle.gdb_format.specs.Decode.{frameHead}
+use Rattle.gdb_format.specs.declared.Base.the-variants.{Sixteen}
 use Rattle.gdb_format.specs.declared.Format.{Format}
 use Rattle.gdb_format.specs.declared.Settings.{Settings}
 use Rattle.gdb_read.specs.Steps.{Row, headSeen}
@@ -57,7 +58,7 @@ planOf f start n r = record { writes = n; start = start; format = f; answer = r 
 
 -- of a file that is refused
 abbrev pub noPlan : ℕ → Plan
-noPlan n = planOf (record { order = Little }) 0 0 (answer.Refused n)
+noPlan n = planOf (record { order = Little; base = Sixteen }) 0 0 (answer.Refused n)
 
 -- a plan for so many lent records: its answer is the question's, and its walk finds the records to be written
 pub record Planned (s : Settings) (b : List ℕ) (room : ℕ) (p : Plan) : Type 0 where

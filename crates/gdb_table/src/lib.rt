@@ -6,6 +6,7 @@ ghost use Rattle.gdb_frames.specs.Questions.{asked};
 ghost use Rattle.gdb_table.specs.Records.{recordOf, frameTable, tableMeaning};
 ghost use Rattle.gdb_table.specs.Walk.{noFrame, stepFrom, planOf, noPlan, Planned};
 use fields::Order;
+use gdb_format::Base;
 use gdb_format::Format;
 use gdb_format::Settings;
 use gdb_read::FrameHead;
@@ -103,6 +104,7 @@ fn refusal(n: u8) -> Plan
         start: 0,
         format: Format {
             order: Order::Little,
+            base: Base::Sixteen,
         },
         answer: TableAnswer::Refused(n),
     }

@@ -10,6 +10,9 @@ use Rattle.fields.specs.Lists.{Each}
 use Rattle.fields.specs.Answer.{Answer, accepted, refused, next}
 use Rattle.gdb_format.specs.Trace.{opening, encode}
 use Rattle.gdb_format.specs.Decode.{read}
+use Rattle.gdb_format.specs.Settings.{radix}
+use Rattle.gdb_format.specs.declared.Base.{Base}
+use Rattle.gdb_format.specs.declared.Base.the-variants.{Ten, Sixteen}
 use Rattle.gdb_format.specs.declared.Settings.{Settings}
 use Rattle.gdb_read.specs.Steps.{Row}
 use Rattle.gdb_frames.specs.Places.{part}
@@ -55,11 +58,9 @@ Holds c = about (c .settings) (c .file) (c .question) ≡ c .reply
 
 -- ---- the table
 
-abbrev little : List ℕ → Question → Answer Reply → Case
-little b q r = record { settings = record { order = 0 }; file = b; question = q; reply = r }
-
-abbrev big : List ℕ → Question → Answer Reply → Case
-big b q r = record { settings = record { order = 1 }; file = b; question = q; reply = r }
+-- in a byte order and a base
+abbrev pub inSettings : Settings → List ℕ → Question → Answer Reply → Case
+inSettings s b q r = record { settings = s; file = b; question = q; reply = r }
 
 abbrev pub row : ℕ → ℕ → ℕ → Row
 row n at k = record { tracepoint = n; place = at; size = k }
@@ -98,26 +99,37 @@ range a b = record { low = a; high = b }
 abbrev only1 : Selection
 only1 = record { ranges = range 1 1 ∷ replicate 7 (range 0 0); count = 1; keep = true }
 
-abbrev pub cases : List Case
-cases =
-    little [] frames (refused 3)
-    ∷ little h frames (refused 4)
-    ∷ little (bare []) frames (accepted (rows []))
-    ∷ little (bare empty1) frames (accepted (rows (row 1 15 0 ∷ [])))
-    ∷ big (bare empty1) frames (accepted (rows (row 256 15 0 ∷ [])))
-    ∷ little (bare (take 5 empty1)) frames (refused 6)
-    ∷ little (bare (1 ∷ 0 ∷ 1 ∷ 0 ∷ 0 ∷ 0 ∷ 0x52 ∷ [])) frames (refused 10)
-    ∷ little (bare (1 ∷ 0 ∷ 1 ∷ 0 ∷ 0 ∷ 0 ∷ 0 ∷ [])) frames (refused 8)
-    ∷ little (two (1 ∷ 0 ∷ 3 ∷ 0 ∷ 0 ∷ 0 ∷ 0x52 ∷ 0xAA ∷ 0xBB ∷ [])) (registers 0) (accepted (bytes (0xAA ∷ 0xBB ∷ [])))
-    ∷ little (two (1 ∷ 0 ∷ 2 ∷ 0 ∷ 0 ∷ 0 ∷ 0x52 ∷ 0xAA ∷ [])) (registers 0) (refused 9)
-    ∷ little top (memory 0 (2 ^ 64 - 1)) (accepted (bytes (0x11 ∷ 0x22 ∷ [])))
-    ∷ little top (memory 0 0) (accepted (bytes (0x22 ∷ [])))
-    ∷ little top (memory 0 1) (refused 12)
-    ∷ little minus (variable 0 1) (accepted (value (negsuc 0)))
-    ∷ little (bare (empty1 ++ empty2 ++ empty1)) (cut only1) (accepted (bytes (bare (empty1 ++ empty1))))
-    ∷ []
+module _ (base : Base) where
+  abbrev little : List ℕ → Question → Answer Reply → Case
+  little = inSettings (record { order = 0; base = radix base })
 
-pub cases-hold : Each Holds cases
+  abbrev big : List ℕ → Question → Answer Reply → Case
+  big = inSettings (record { order = 1; base = radix base })
+
+  -- the paper's rows: a size of one digit below 10 says the same in both bases
+  abbrev pub cases : List Case
+  cases =
+      little [] frames (refused 3)
+      ∷ little h frames (refused 4)
+      ∷ little (bare []) frames (accepted (rows []))
+      ∷ little (bare empty1) frames (accepted (rows (row 1 15 0 ∷ [])))
+      ∷ big (bare empty1) frames (accepted (rows (row 256 15 0 ∷ [])))
+      ∷ little (bare (take 5 empty1)) frames (refused 6)
+      ∷ little (bare (1 ∷ 0 ∷ 1 ∷ 0 ∷ 0 ∷ 0 ∷ 0x52 ∷ [])) frames (refused 10)
+      ∷ little (bare (1 ∷ 0 ∷ 1 ∷ 0 ∷ 0 ∷ 0 ∷ 0 ∷ [])) frames (refused 8)
+      ∷ little (two (1 ∷ 0 ∷ 3 ∷ 0 ∷ 0 ∷ 0 ∷ 0x52 ∷ 0xAA ∷ 0xBB ∷ [])) (registers 0) (accepted (bytes (0xAA ∷ 0xBB ∷ [])))
+      ∷ little (two (1 ∷ 0 ∷ 2 ∷ 0 ∷ 0 ∷ 0 ∷ 0x52 ∷ 0xAA ∷ [])) (registers 0) (refused 9)
+      ∷ little top (memory 0 (2 ^ 64 - 1)) (accepted (bytes (0x11 ∷ 0x22 ∷ [])))
+      ∷ little top (memory 0 0) (accepted (bytes (0x22 ∷ [])))
+      ∷ little top (memory 0 1) (refused 12)
+      ∷ little minus (variable 0 1) (accepted (value (negsuc 0)))
+      ∷ little (bare (empty1 ++ empty2 ++ empty1)) (cut only1) (accepted (bytes (bare (empty1 ++ empty1))))
+      ∷ []
+
+-- in both bases
+pub cases-hold : (base : Base) → Each Holds (cases base)
 unfolding read opening encode cutOf
-cases-hold =
+cases-hold Ten =
+    (refl, (refl, (refl, (refl, (refl, (refl, (refl, (refl, (refl, (refl, (refl, (refl, (refl, (refl, (refl, tt)))))))))))))))
+cases-hold Sixteen =
     (refl, (refl, (refl, (refl, (refl, (refl, (refl, (refl, (refl, (refl, (refl, (refl, (refl, (refl, (refl, tt)))))))))))))))

@@ -10,12 +10,13 @@ use Rattle.refusals.specs.Refusal as no
 use Rattle.fields.specs.Lists.{Each}
 use Rattle.fields.specs.Answer.{Answer, accepted, refused}
 use Rattle.gdb_format.specs.Trace.{opening, encode}
+use Rattle.gdb_format.specs.Settings.{defaultSettings}
 use Rattle.gdb_format.specs.Decode.{read}
 use Rattle.gdb_cut.specs.Cut.{cutOf}
 use Rattle.gdb_select.specs.declared.Range.{Range}
 use Rattle.gdb_select.specs.declared.Selection.{Selection}
 use Rattle.gdb_join.specs.Join.{joinOf}
-use Rattle.paper_cases.specs.Cases.{Question, frames, memory, variable, cut, Reply, rows, bytes, value, Case, Holds, h, bare, empty1, empty2, range}
+use Rattle.paper_cases.specs.Cases.{Question, frames, memory, variable, cut, Reply, rows, bytes, value, Case, Holds, inSettings, h, bare, empty1, empty2, range}
 
 -- the numbers of document 01's table, in its order, and C-11's
 abbrev named : List ℕ
@@ -31,13 +32,13 @@ numbers = refl
 
 -- in byte order o
 abbrev pub ordered : ℕ → List ℕ → Question → Answer Reply → Case
-ordered o b q r = record { settings = record { order = o }; file = b; question = q; reply = r }
+ordered o = inSettings (defaultSettings o)
 
 -- a description of one line, and no frames
 abbrev lined : List ℕ → List ℕ
 lined l = h ++ l ++ 0x0A ∷ 0x0A ∷ []
 
-abbrev registerLine : List ℕ → List ℕ
+abbrev pub registerLine : List ℕ → List ℕ
 registerLine d = lined (0x52 ∷ 0x20 ∷ d)
 
 -- one range, with 2..2 behind those that are stated
@@ -57,12 +58,8 @@ four = empty1 ++ empty2 ++ empty3 ++ empty1
 
 abbrev edges : List Case
 edges =
-    -- `R8`; `R 65535` and `R 65536`; six digits, none; a second `R ` line
+    -- `R8`; a second `R ` line
     ordered 0 (lined (0x52 ∷ 0x38 ∷ [])) frames (accepted (rows []))
-    ∷ ordered 0 (registerLine (0x36 ∷ 0x35 ∷ 0x35 ∷ 0x33 ∷ 0x35 ∷ [])) frames (accepted (rows []))
-    ∷ ordered 0 (registerLine (0x36 ∷ 0x35 ∷ 0x35 ∷ 0x33 ∷ 0x36 ∷ [])) frames (refused 5)
-    ∷ ordered 0 (registerLine (replicate 6 0x30)) frames (refused 5)
-    ∷ ordered 0 (registerLine []) frames (refused 5)
     ∷ ordered 0 (registerLine (0x31 ∷ 0x0A ∷ 0x52 ∷ 0x20 ∷ 0x31 ∷ [])) frames (refused 5)
     -- data past the file; a byte order that is neither
     ∷ ordered 0 (bare (1 ∷ 0 ∷ 1 ∷ 0 ∷ 0 ∷ 0 ∷ [])) frames (refused 7)
@@ -85,11 +82,11 @@ edges =
 pub edges-hold : Each Holds edges
 unfolding read opening encode cutOf
 edges-hold =
-    (refl, (refl, (refl, (refl, (refl, (refl, (refl, (refl, (refl, (refl, (refl, (refl, (refl, (refl, (refl, (refl, (refl, (refl, tt))))))))))))))))))
+    (refl, (refl, (refl, (refl, (refl, (refl, (refl, (refl, (refl, (refl, (refl, (refl, (refl, (refl, tt))))))))))))))
 
 -- a join has the first trace's frames first; 13 where the openings differ
 abbrev pub little : List ℕ → List ℕ → Answer (List ℕ)
-little a b = joinOf (record { order = 0 }) a b
+little a b = joinOf (defaultSettings 0) a b
 
 pub joins-hold : (little (bare empty1) (bare empty2) ≡ accepted (bare (empty1 ++ empty2))) × (little (bare empty1) (lined (0x78 ∷ [])) ≡ refused 13)
 unfolding read opening encode joinOf

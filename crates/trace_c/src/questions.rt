@@ -1,5 +1,6 @@
 // Questions about a GDB trace.
 ghost use mathlib.Core.Path.{_≡_};
+ghost use Rattle.gdb_format.specs.Settings.{defaultSettings};
 ghost use Rattle.gdb_frames.specs.Questions.{asked, frameCount, endMark, frameData, lineAt};
 ghost use Rattle.gdb_blocks.specs.Search.{blockAt, registersAt, memoryAt, variableAt};
 ghost use Rattle.gdb_table.specs.Records.{frameTable};
@@ -13,6 +14,13 @@ use gdb_flat::questions::Place;
 use gdb_flat::questions::Value;
 use gdb_format::Settings;
 use gdb_table::FrameRecord;
+
+#[no_mangle]
+pub extern "C" fn tfk_default_settings(order: u8) -> Settings
+    ensures { λ r. ⌜ r ≡ defaultSettings order ⌝ }
+{
+    gdb_format::default_settings(order)
+}
 
 #[no_mangle]
 pub extern "C" fn tfk_frame_count(settings: Settings, file: &[u8]) -> Count

@@ -5,7 +5,7 @@ use crate::reader::{Reader, Record};
 use crate::second::dat::{self, Ending, Summary};
 use crate::second::edit::{self, Pair, Selection, TracepointRange, Which};
 use crate::second::gdb::{self, BlockKind, Frame, LineKind, Trace};
-use crate::second::{Order, Part, Refusal};
+use crate::second::{Order, Part, Refusal, Settings};
 
 /// An answer of the C interface.
 pub trait Answer: Copy + Default + PartialEq + std::fmt::Debug {
@@ -37,36 +37,49 @@ fn answer<T, A: Answer>(result: Result<T, Refusal>, told: impl FnOnce(T) -> A) -
 
 /// The second reader.
 pub const SECOND: Reader = Reader {
-    frame_count: |order, file| answer(Trace::read(order, file), |trace| count(trace.frame_count())),
-    end_mark: |order, file| answer(Trace::read(order, file), |trace| mark(trace.is_marked())),
-    frame_table: |order, file, records| answer(frame_table(order, file, records), count),
-    line_place: |order, file, j| answer(Trace::read(order, file).and_then(|trace| trace.line(j)), line),
-    frame_place: |order, file, n| {
-        answer(Trace::read(order, file).and_then(|trace| trace.frame(n)), |frame| place(frame.data))
+    default_settings: |order| {
+        let Settings { order, base } = Settings::of_order(order);
+        c::Settings { order, base }
     },
-    block_record: |order, file, n, k| answer(Trace::read(order, file).and_then(|trace| trace.block(n, k)), block),
-    registers_place: |order, file, n| answer(Trace::read(order, file).and_then(|trace| trace.registers(n)), place),
-    memory_place: |order, file, n, address| {
-        answer(Trace::read(order, file).and_then(|trace| trace.memory(n, address)), place)
+    frame_count: |settings, file| answer(read(settings, file), |trace| count(trace.frame_count())),
+    end_mark: |settings, file| answer(read(settings, file), |trace| mark(trace.is_marked())),
+    frame_table: |settings, file, records| answer(frame_table(settings, file, records), count),
+    line_place: |settings, file, j| answer(read(settings, file).and_then(|trace| trace.line(j)), line),
+    frame_place: |settings, file, n| {
+        answer(read(settings, file).and_then(|trace| trace.frame(n)), |frame| place(frame.data))
     },
-    variable: |order, file, n, number| {
-        answer(Trace::read(order, file).and_then(|trace| trace.variable(n, number)), value)
+    block_record: |settings, file, n, k| answer(read(settings, file).and_then(|trace| trace.block(n, k)), block),
+    registers_place: |settings, file, n| answer(read(settings, file).and_then(|trace| trace.registers(n)), place),
+    memory_place: |settings, file, n, address| {
+        answer(read(settings, file).and_then(|trace| trace.memory(n, address)), place)
+    },
+    variable: |settings, file, n, number| {
+        answer(read(settings, file).and_then(|trace| trace.variable(n, number)), value)
     },
     opposite: |selected| {
         let opposite = selection(&selected).opposite();
         c::Selection { keep: opposite.keep.into(), ..selected }
     },
-    cut: |order, file, selected, out| answer(edit::cut(order, file, &selection(&selected), out), length),
-    join: |order, first, second, out| answer(edit::join(order, first, second, out), length),
-    pair_place: |order, first, second, n| {
-        answer(Pair::read(order, first, second).and_then(|pair| pair.frame(n)), pair_part)
+    cut: |settings, file, selected, out| answer(edit::cut(said(settings), file, &selection(&selected), out), length),
+    join: |settings, first, second, out| answer(edit::join(said(settings), first, second, out), length),
+    pair_place: |settings, first, second, n| {
+        answer(Pair::read(said(settings), first, second).and_then(|pair| pair.frame(n)), pair_part)
     },
-    pair_variable: |order, first, second, n, number| {
-        answer(Pair::read(order, first, second).and_then(|pair| pair.variable(n, number)), value)
+    pair_variable: |settings, first, second, n, number| {
+        answer(Pair::read(said(settings), first, second).and_then(|pair| pair.variable(n, number)), value)
     },
     dat_read: |file| answer(dat::read(file), |found| summary(&found)),
     dat_cpu_range: |file, i| answer(dat::cpu_range(file, i), cpu_range),
 };
+
+fn said(settings: c::Settings) -> Settings {
+    let c::Settings { order, base } = settings;
+    Settings { order, base }
+}
+
+pub fn read(settings: c::Settings, file: &[u8]) -> Result<Trace<'_>, Refusal> {
+    Trace::read(said(settings), file)
+}
 
 fn count(count: usize) -> Count {
     Count { refusal: 0, count }
@@ -93,10 +106,10 @@ fn cpu_range(range: dat::CpuRange) -> CpuRange {
 }
 
 /// Only the bytes of the fields are written, as C would.
-fn frame_table(order: u8, file: &[u8], records: &mut [Record]) -> Result<usize, Refusal> {
+fn frame_table(settings: c::Settings, file: &[u8], records: &mut [Record]) -> Result<usize, Refusal> {
     let unset = Frame { tracepoint: 0, data: Part { place: 0, length: 0 } };
     let mut frames = vec![unset; records.len()];
-    let count = Trace::read(order, file)?.frame_table(&mut frames)?;
+    let count = read(settings, file)?.frame_table(&mut frames)?;
     for (record, frame) in records.iter_mut().zip(&frames[..count]) {
         let mut first = record[0].to_ne_bytes();
         first[..2].copy_from_slice(&frame.tracepoint.to_ne_bytes());

@@ -1,7 +1,7 @@
 //! The C interface, as `include/tufakpeni.h` declares it.
 
 /// The number of the interface.
-pub const INTERFACE: u64 = 2;
+pub const INTERFACE: u64 = 3;
 
 pub const LINE_OTHER: u8 = 0;
 pub const LINE_R: u8 = 1;
@@ -13,10 +13,11 @@ pub const LINE_TDESC: u8 = 5;
 pub const ENDING_LATENCY: u8 = 0;
 pub const ENDING_FLYRECORD: u8 = 1;
 
-#[derive(Clone, Copy)]
+#[derive(Clone, Copy, Debug, Default, PartialEq, Eq)]
 #[repr(C)]
 pub struct Settings {
     pub order: u8,
+    pub base: u8,
 }
 
 #[derive(Clone, Copy, Debug, Default, PartialEq, Eq)]
@@ -147,6 +148,7 @@ pub struct CpuRange {
 
 extern "C" {
     pub fn tfk_interface() -> u64;
+    pub fn tfk_default_settings(order: u8) -> Settings;
     pub fn tfk_frame_count(settings: Settings, file: *const u8, file_length: usize) -> Count;
     pub fn tfk_end_mark(settings: Settings, file: *const u8, file_length: usize) -> Mark;
     pub fn tfk_frame_table(

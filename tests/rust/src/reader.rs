@@ -1,6 +1,8 @@
 //! What is compared: every call of the C interface, with slices for pointers.
 
-use crate::c::{Block, Count, CpuRange, DatSummary, Frame, Length, Line, Mark, PairPart, Place, Selection, Value};
+use crate::c::{
+    Block, Count, CpuRange, DatSummary, Frame, Length, Line, Mark, PairPart, Place, Selection, Settings, Value,
+};
 
 /// A frame record as the words that it fills, so that its padding is compared where it stays unchanged.
 pub type Record = [u64; 3];
@@ -13,22 +15,23 @@ pub fn fields(record: &Record) -> Frame {
     Frame { tracepoint: u16::from_ne_bytes([b0, b1]), place: record[1] as usize, size: record[2] as usize }
 }
 
-/// A reader of both formats. The first argument of a GDB call is the byte order.
+/// A reader of both formats. The first argument of a GDB call says how the trace is to be read.
 pub struct Reader {
-    pub frame_count: fn(u8, &[u8]) -> Count,
-    pub end_mark: fn(u8, &[u8]) -> Mark,
-    pub frame_table: fn(u8, &[u8], &mut [Record]) -> Count,
-    pub line_place: fn(u8, &[u8], usize) -> Line,
-    pub frame_place: fn(u8, &[u8], usize) -> Place,
-    pub block_record: fn(u8, &[u8], usize, usize) -> Block,
-    pub registers_place: fn(u8, &[u8], usize) -> Place,
-    pub memory_place: fn(u8, &[u8], usize, u64) -> Place,
-    pub variable: fn(u8, &[u8], usize, u32) -> Value,
+    pub default_settings: fn(u8) -> Settings,
+    pub frame_count: fn(Settings, &[u8]) -> Count,
+    pub end_mark: fn(Settings, &[u8]) -> Mark,
+    pub frame_table: fn(Settings, &[u8], &mut [Record]) -> Count,
+    pub line_place: fn(Settings, &[u8], usize) -> Line,
+    pub frame_place: fn(Settings, &[u8], usize) -> Place,
+    pub block_record: fn(Settings, &[u8], usize, usize) -> Block,
+    pub registers_place: fn(Settings, &[u8], usize) -> Place,
+    pub memory_place: fn(Settings, &[u8], usize, u64) -> Place,
+    pub variable: fn(Settings, &[u8], usize, u32) -> Value,
     pub opposite: fn(Selection) -> Selection,
-    pub cut: fn(u8, &[u8], Selection, &mut [u8]) -> Length,
-    pub join: fn(u8, &[u8], &[u8], &mut [u8]) -> Length,
-    pub pair_place: fn(u8, &[u8], &[u8], usize) -> PairPart,
-    pub pair_variable: fn(u8, &[u8], &[u8], usize, u32) -> Value,
+    pub cut: fn(Settings, &[u8], Selection, &mut [u8]) -> Length,
+    pub join: fn(Settings, &[u8], &[u8], &mut [u8]) -> Length,
+    pub pair_place: fn(Settings, &[u8], &[u8], usize) -> PairPart,
+    pub pair_variable: fn(Settings, &[u8], &[u8], usize, u32) -> Value,
     pub dat_read: fn(&[u8]) -> DatSummary,
     pub dat_cpu_range: fn(&[u8], usize) -> CpuRange,
 }

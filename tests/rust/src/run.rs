@@ -61,18 +61,22 @@ impl Tally {
         told
     }
 
+    /// How many files met this.
+    pub fn met(&self, met: Met) -> usize {
+        self.met[met.index()]
+    }
+
     /// Prints the counts, and holds each of these to having been met by so many files.
     pub fn finish(&self, least: &[(Met, usize)]) {
         println!(
             "{}: seed {}, {} files, {} calls compared, no difference",
             self.name, self.seed, self.files, self.calls
         );
-        let count = |met: Met| self.met[met.index()];
         let told: Vec<_> =
-            Met::all().filter(|&met| count(met) > 0).map(|met| format!("{met:?}: {}", count(met))).collect();
+            Met::all().filter(|&met| self.met(met) > 0).map(|met| format!("{met:?}: {}", self.met(met))).collect();
         println!("{}: files that met each: {}", self.name, told.join(", "));
         for &(met, least) in least {
-            let files = count(met);
+            let files = self.met(met);
             assert!(files >= least, "{}: {met:?} was met by {files} files only, not by {least}", self.name);
         }
     }

@@ -1,6 +1,7 @@
 //! Every call of the library compared with the second reader's, on made files of every sort.
 
-use tufakpeni_tests::compare::{Comparer, Met};
+use tufakpeni_tests::c::Settings;
+use tufakpeni_tests::compare::{Based, Comparer, Met};
 use tufakpeni_tests::library::LIBRARY;
 use tufakpeni_tests::make::dat::Dat;
 use tufakpeni_tests::make::gdb::{memory_at, registers, variable, Frame, Trace};
@@ -26,15 +27,22 @@ impl Traces<'_> {
 
     /// Only as a pair, both ways.
     fn compare_joins(&mut self, trace: &MadeTrace) {
-        let (order, file, partner) = (trace.order, trace.made.file(), &trace.partner[..]);
-        let result = self.comparer.pair(&mut self.random, order, file, partner);
-        let result = result.and_then(|()| self.comparer.pair(&mut self.random, order, partner, file));
+        let (settings, file, partner) = (trace.settings, trace.made.file(), &trace.partner[..]);
+        let result = self.comparer.pair(&mut self.random, settings, file, partner);
+        let result = result.and_then(|()| self.comparer.pair(&mut self.random, settings, partner, file));
         self.tally.count(&mut self.comparer, trace.made.name, result, &[file, partner]);
     }
 
-    fn compare_alone(&mut self, order: u8, made: Made, partner: &[u8]) {
-        self.compare(&MadeTrace { made, order, partner: partner.to_vec() });
+    fn compare_alone(&mut self, settings: Settings, made: Made, partner: &[u8]) {
+        self.compare(&MadeTrace { made, settings, partner: partner.to_vec() });
     }
+}
+
+#[test]
+fn default_settings() {
+    let mut comparer = Comparer::new(&LIBRARY);
+    comparer.default_settings().unwrap_or_else(|difference| panic!("{difference:?}"));
+    println!("default settings: {} calls compared, no difference", comparer.calls);
 }
 
 #[test]
@@ -44,63 +52,83 @@ fn gdb_traces() {
     let mut traces = Traces { comparer: Comparer::new(&LIBRARY), random, tally: Tally::new("GDB", seed) };
     let wanted = files() * 3 / 5;
     every_front_and_byte_of_traces(&mut traces);
+    every_number_as_a_setting(&mut traces);
     longest_traces(&mut traces);
+    // What chance makes has to meet everything by itself, but for the length limit.
+    let refusals = (2..=13).chain([18]).map(Met::Refusal);
+    let met = refusals.chain([false, true].map(Met::Marked)).chain(Met::joins()).chain(Based::ALL.map(Met::Based));
+    let mut least: Vec<_> = met.map(|met| (met, traces.tally.met(met) + wanted / 100)).collect();
+    least.push((Met::Refusal(1), 16));
     for index in 0..wanted {
         traces.random = Random::of(seed, index);
         let trace = any_trace(&mut traces.random);
         traces.compare(&trace);
     }
-    let often = traces.tally.files / 100;
-    let refusals = (2..=13).chain([18]).map(Met::Refusal);
-    let met = refusals.chain([false, true].map(Met::Marked)).chain(Met::joins());
-    let least: Vec<_> = met.map(|met| (met, often)).chain([(Met::Refusal(1), 16)]).collect();
     traces.tally.finish(&least);
 }
 
 /// A trace of two frames with a block of each kind.
-fn small_trace(order: u8, marked: bool) -> Trace {
+fn small_trace(settings: Settings, marked: bool) -> Trace {
     let random = &mut Random::new(1);
+    let order = settings.order;
     let blocks = vec![registers(random, 2), memory_at(order, u64::MAX, b"MR"), variable(random, order)];
     let frames = vec![Frame::of(blocks), Frame::of(Vec::new())];
-    Trace { order, lines: vec![b"R 2".to_vec(), b"status 0".to_vec()], register_size: Some(2), frames, marked }
+    Trace { settings, lines: vec![b"R 02".to_vec(), b"status 0".to_vec()], register_size: Some(2), frames, marked }
 }
 
 fn every_front_and_byte_of_traces(traces: &mut Traces) {
     for index in 0..SHORTENED {
-        let order = (index % 2) as u8;
-        let trace = Trace::with(&mut traces.random, order, [None, Some(0), Some(3)][index % 3]);
+        let settings = Settings { order: (index % 2) as u8, base: [10, 16][index / 2 % 2] };
+        let trace = Trace::with(&mut traces.random, settings, [None, Some(12), Some(3)][index % 3]);
         let bytes = trace.bytes();
         for made in damage::every_front(&bytes) {
-            traces.compare_alone(order, made, &bytes);
+            traces.compare_alone(settings, made, &bytes);
         }
     }
-    for (order, marked) in [(0, false), (0, true), (1, false), (1, true)] {
-        let bytes = small_trace(order, marked).bytes();
+    for (order, base, marked) in [(0, 10, false), (0, 16, true), (1, 16, false), (1, 10, true)] {
+        let settings = Settings { order, base };
+        let bytes = small_trace(settings, marked).bytes();
         // Joined with its like in one order and with the other marking in the other.
-        let partner = small_trace(order, marked == (order == 0)).bytes();
+        let partner = small_trace(settings, marked == (order == 0)).bytes();
         for made in damage::every_byte(&bytes) {
-            traces.compare_alone(order, made, &partner);
+            traces.compare_alone(settings, made, &partner);
+        }
+    }
+}
+
+/// Every number as the base and every number as the byte order, for a trace with an R line, one without, and no trace.
+fn every_number_as_a_setting(traces: &mut Traces) {
+    let small = small_trace(Settings { order: 0, base: 16 }, true);
+    let files = [small.bytes(), Trace::bare(small.settings).bytes(), Vec::new()];
+    for number in 0..=u8::MAX {
+        let bases = [0, 1].map(|order| Settings { order, base: number });
+        let orders = [10, 16].map(|base| Settings { order: number, base });
+        for settings in [bases, orders].concat() {
+            for file in &files {
+                let result = traces.comparer.trace(&mut traces.random, settings, file, file);
+                traces.tally.count(&mut traces.comparer, "every setting", result.map(drop), &[file]);
+            }
         }
     }
 }
 
 /// A file as long as may be and one byte longer, a join's result likewise, and many frames.
 fn longest_traces(traces: &mut Traces) {
-    for order in [0, 1] {
-        let opening = Trace { order, ..Trace::default() }.opening();
+    for settings in [Settings { order: 0, base: 16 }, Settings { order: 1, base: 10 }] {
+        let opening = Trace::bare(settings).opening();
         for (beyond, refusal) in [(0, 0), (1, 1)] {
             for marked in [false, true] {
-                let made = Made::new("longest", longest::trace(order, marked, MAX_LENGTH + beyond), Some(refusal));
-                traces.compare_alone(order, made, &opening);
+                let made = Made::new("longest", longest::trace(settings, marked, MAX_LENGTH + beyond), Some(refusal));
+                traces.compare_alone(settings, made, &opening);
             }
-            for joined in longest::joined(order, beyond) {
+            for joined in longest::joined(settings, beyond) {
                 traces.compare_joins(&joined);
             }
         }
-        traces.compare_alone(order, Made::new("many", longest::many(order), Some(0)), &opening);
+        traces.compare_alone(settings, Made::new("many", longest::many(settings), Some(0)), &opening);
         let long = longest::filled(opening.clone(), 1);
-        traces.compare_alone(order, Made::new("bad head, long partner", b"x".to_vec(), Some(3)), &long);
-        traces.compare_alone(order, Made::new("short, long partner", opening, Some(0)), &long);
+        traces.compare_alone(settings, Made::new("bad head, long partner", b"x".to_vec(), Some(3)), &long);
+        traces.compare_alone(settings, Made::new("short, long partner", opening, Some(0)), &long);
     }
 }
 

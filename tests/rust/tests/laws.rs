@@ -1,10 +1,11 @@
-//! The laws of cuts and joins, run on made traces of one opening and on random selections through the C interface.
+//! The laws of cuts and joins, run on made traces of one opening and on random selections through the C interface, in both
+//! byte orders and both bases.
 
 use tufakpeni_tests::answers::selection as of_c;
-use tufakpeni_tests::c::{Frame, Length, Selection};
+use tufakpeni_tests::c::{Frame, Length, Selection, Settings};
 use tufakpeni_tests::library::LIBRARY;
 use tufakpeni_tests::make::gdb::{Trace, END_MARK};
-use tufakpeni_tests::make::{selection, Random};
+use tufakpeni_tests::make::{selection, settings, Random};
 use tufakpeni_tests::reader::fields;
 use tufakpeni_tests::run::seed;
 
@@ -14,7 +15,7 @@ const FRAME_HEAD: usize = 6;
 
 /// Three traces of one opening, each marked or not, and two selections.
 struct Round {
-    order: u8,
+    settings: Settings,
     opening: Vec<u8>,
     traces: [Vec<u8>; 3],
     /// The first trace's end mark, if any.
@@ -25,25 +26,25 @@ struct Round {
 
 impl Round {
     fn new(random: &mut Random) -> Self {
-        let order = random.below(2) as u8;
-        let first = Trace::valid(random, order);
+        let settings = settings::right(random);
+        let first = Trace::valid(random, settings);
         let traces = [first.bytes(), first.sibling(random).bytes(), first.sibling(random).bytes()];
         let (opening, mark) = (first.opening(), first.mark());
-        Round { order, opening, traces, mark, a: selection::right(random), b: selection::right(random) }
+        Round { settings, opening, traces, mark, a: selection::right(random), b: selection::right(random) }
     }
 
     fn cut(&self, file: &[u8], by: Selection) -> Vec<u8> {
-        result(file.len(), |out| (LIBRARY.cut)(self.order, file, by, out))
+        result(file.len(), |out| (LIBRARY.cut)(self.settings, file, by, out))
     }
 
     fn join(&self, first: &[u8], second: &[u8]) -> Vec<u8> {
-        result(first.len() + second.len(), |out| (LIBRARY.join)(self.order, first, second, out))
+        result(first.len() + second.len(), |out| (LIBRARY.join)(self.settings, first, second, out))
     }
 
     /// The frames of a trace with their bytes, heads included.
     fn frames<'f>(&self, file: &'f [u8]) -> Vec<(Frame, &'f [u8])> {
         let mut table = vec![[0; 3]; file.len()];
-        let answer = (LIBRARY.frame_table)(self.order, file, &mut table);
+        let answer = (LIBRARY.frame_table)(self.settings, file, &mut table);
         assert_eq!(answer.refusal, 0);
         let frames = table[..answer.count].iter().map(fields);
         frames.map(|frame| (frame, &file[frame.place - FRAME_HEAD..frame.place + frame.size])).collect()
@@ -135,7 +136,8 @@ fn the_laws_hold() {
     for index in 0..ROUNDS {
         let round = Round::new(&mut Random::of(seed, index));
         if std::panic::catch_unwind(|| laws.iter().for_each(|law| law(&round))).is_err() {
-            panic!("seed {seed}, round {index}: {:?}, {:?}, {:02x?}", round.a, round.b, round.traces);
+            let Round { settings, a, b, traces, .. } = &round;
+            panic!("seed {seed}, round {index}: {settings:?}, {a:?}, {b:?}, {traces:02x?}");
         }
     }
     println!("laws: seed {seed}, {ROUNDS} rounds of {} laws", laws.len());

@@ -1,10 +1,10 @@
-//! Document 01's own cases, "Both sides of each edge", those of request C-11, and those of docs/DECISIONS.md, "How the
-//! papers are read", with values written out here.
+//! Document 01's own cases, "Both sides of each edge", those of requests C-11 and C-18, and those of docs/DECISIONS.md, "How
+//! the papers are read", with values written out here.
 //! The second reader is held to them first, then the library.
 
 use tufakpeni_tests::answers::SECOND;
 use tufakpeni_tests::c::{
-    Block, Count, CpuRange, Frame, Length, Line, Mark, PairPart, Part, Place, Range, Selection, Value,
+    Block, Count, CpuRange, Frame, Length, Line, Mark, PairPart, Part, Place, Range, Selection, Settings, Value,
     ENDING_FLYRECORD, ENDING_LATENCY, LINE_OTHER, LINE_R, LINE_STATUS, LINE_TDESC, LINE_TP, LINE_TSV,
 };
 use tufakpeni_tests::library::LIBRARY;
@@ -12,8 +12,13 @@ use tufakpeni_tests::make::longest;
 use tufakpeni_tests::reader::{fields, Reader};
 use tufakpeni_tests::second::MAX_LENGTH;
 
-const LITTLE: u8 = 0;
-const BIG: u8 = 1;
+#[path = "paper/base.rs"]
+mod base;
+
+/// Both byte orders in the default base, and the base that the paper's cases at 65,535 and 65,536 state.
+const LITTLE: Settings = Settings { order: 0, base: 16 };
+const BIG: Settings = Settings { order: 1, base: 16 };
+const LITTLE_TEN: Settings = Settings { order: 0, base: 10 };
 const H: &[u8] = b"\x7fTRACE0\n";
 /// The two-register case.
 const TWO_REGISTERS: &[u8] = b"R 2\n\n\x01\0\x03\0\0\0R\xAA\xBB";
@@ -26,9 +31,9 @@ fn trace(rest: &[u8]) -> Vec<u8> {
     [H, rest].concat()
 }
 
-/// The refusal of a little-endian trace, 0 where it is accepted.
-fn refusal(reader: &Reader, rest: &[u8]) -> u8 {
-    (reader.frame_count)(LITTLE, &trace(rest)).refusal
+/// The refusal of a trace, 0 where it is accepted.
+fn refusal(reader: &Reader, settings: Settings, rest: &[u8]) -> u8 {
+    (reader.frame_count)(settings, &trace(rest)).refusal
 }
 
 /// A little-endian trace.dat header with empty sections as far as the CPU count, for a page size of 4,096.
@@ -56,37 +61,38 @@ fn dat_with(ranges: &[(u64, u64)]) -> Vec<u8> {
 fn heads_and_frames(reader: &Reader) {
     assert_eq!((reader.frame_count)(LITTLE, b"").refusal, 3);
     assert_eq!((reader.frame_count)(LITTLE, &H[..7]).refusal, 3);
-    assert_eq!(refusal(reader, b""), 4);
+    assert_eq!(refusal(reader, LITTLE, b""), 4);
     assert_eq!((reader.frame_count)(LITTLE, &trace(b"\n")), Count { refusal: 0, count: 0 });
     let one = trace(b"\n\x01\0\0\0\0\0");
-    for (order, tracepoint) in [(LITTLE, 1), (BIG, 256)] {
+    for (settings, tracepoint) in [(LITTLE, 1), (BIG, 256)] {
         let mut table = [[0; 3]];
-        assert_eq!((reader.frame_table)(order, &one, &mut table), Count { refusal: 0, count: 1 });
+        assert_eq!((reader.frame_table)(settings, &one, &mut table), Count { refusal: 0, count: 1 });
         assert_eq!(fields(&table[0]), Frame { tracepoint, place: 15, size: 0 });
-        assert_eq!((reader.frame_place)(order, &one, 0), Place { refusal: 0, place: 15, length: 0 });
+        assert_eq!((reader.frame_place)(settings, &one, 0), Place { refusal: 0, place: 15, length: 0 });
     }
     assert_eq!((reader.frame_count)(LITTLE, &one[..14]).refusal, 6);
-    assert_eq!((reader.frame_count)(2, &one).refusal, 2);
-    assert_eq!((reader.frame_count)(2, b"").refusal, 2);
-    assert_eq!(refusal(reader, b"\n\x01\0\x01\0\0\0R"), 10);
-    assert_eq!(refusal(reader, b"\n\x01\0\x01\0\0\0\0"), 8);
-    assert_eq!(refusal(reader, b"\n\x01\0\x02\0\0\0R"), 7);
+    let no_order = Settings { order: 2, ..LITTLE };
+    assert_eq!((reader.frame_count)(no_order, &one).refusal, 2);
+    assert_eq!((reader.frame_count)(no_order, b"").refusal, 2);
+    assert_eq!(refusal(reader, LITTLE, b"\n\x01\0\x01\0\0\0R"), 10);
+    assert_eq!(refusal(reader, LITTLE, b"\n\x01\0\x01\0\0\0\0"), 8);
+    assert_eq!(refusal(reader, LITTLE, b"\n\x01\0\x02\0\0\0R"), 7);
 }
 
-fn blocks(reader: &Reader) {
+fn blocks(reader: &Reader, settings: Settings) {
     let registers = trace(TWO_REGISTERS);
-    assert_eq!((reader.registers_place)(LITTLE, &registers, 0), Place { refusal: 0, place: 20, length: 2 });
+    assert_eq!((reader.registers_place)(settings, &registers, 0), Place { refusal: 0, place: 20, length: 2 });
     assert_eq!(registers[20..], [0xAA, 0xBB]);
-    assert_eq!(refusal(reader, b"R 2\n\n\x01\0\x02\0\0\0R\xAA"), 9);
+    assert_eq!(refusal(reader, settings, b"R 2\n\n\x01\0\x02\0\0\0R\xAA"), 9);
     let mut table = [[0; 3]];
-    assert_eq!((reader.frame_table)(LITTLE, &registers, &mut table), Count { refusal: 0, count: 1 });
+    assert_eq!((reader.frame_table)(settings, &registers, &mut table), Count { refusal: 0, count: 1 });
     assert_eq!(fields(&table[0]), Frame { tracepoint: 1, place: 19, size: 3 });
     let block = Block { letter: b'R', place: 19, ..Block::default() };
-    assert_eq!((reader.block_record)(LITTLE, &registers, 0, 0), block);
-    assert_eq!((reader.block_record)(LITTLE, &registers, 0, 1).refusal, 12);
-    assert_eq!((reader.block_record)(LITTLE, &registers, 1, 0).refusal, 12);
+    assert_eq!((reader.block_record)(settings, &registers, 0, 0), block);
+    assert_eq!((reader.block_record)(settings, &registers, 0, 1).refusal, 12);
+    assert_eq!((reader.block_record)(settings, &registers, 1, 0).refusal, 12);
     let none = trace(b"R 0\n\n\x01\0\x01\0\0\0R");
-    assert_eq!((reader.registers_place)(LITTLE, &none, 0), Place { refusal: 0, place: 20, length: 0 });
+    assert_eq!((reader.registers_place)(settings, &none, 0), Place { refusal: 0, place: 20, length: 0 });
 }
 
 fn memory_and_variables(reader: &Reader) {
@@ -107,28 +113,57 @@ fn memory_and_variables(reader: &Reader) {
     assert_eq!((reader.memory_place)(LITTLE, &empty, 0, 5).refusal, 12);
 }
 
+/// A trace with this R line, and a frame of a register block of this size.
+fn with_registers(line: &str, size: usize) -> Vec<u8> {
+    let mut file = trace(line.as_bytes());
+    file.extend_from_slice(b"\n\n\x01\0");
+    file.extend_from_slice(&(1 + size as u32).to_le_bytes());
+    file.push(b'R');
+    file.resize(file.len() + size, b'M');
+    file
+}
+
+/// Holds an R line to the size of a register block by it.
+fn says(reader: &Reader, settings: Settings, line: &str, size: usize) {
+    let file = with_registers(line, size);
+    let place = file.len() - size;
+    let registers = (reader.registers_place)(settings, &file, 0);
+    assert_eq!(registers, Place { refusal: 0, place, length: size }, "{line:?} in base {}", settings.base);
+}
+
+/// Holds a description to 5, and to 4 where its last line is not ended.
+fn bad_line(reader: &Reader, settings: Settings, line: &str) {
+    let told = format!("{line:?} in base {}", settings.base);
+    assert_eq!(refusal(reader, settings, format!("{line}\n\n").as_bytes()), 5, "{told}");
+    assert_eq!(refusal(reader, settings, format!("{line}\n").as_bytes()), 5, "{told}, no empty line");
+    assert_eq!(refusal(reader, settings, line.as_bytes()), 4, "{told}, not ended");
+}
+
 fn lines(reader: &Reader) {
-    for (good, size) in [("R 65535", 65_535), ("R 00776", 776), ("R 0", 0)] {
-        let mut file = trace(good.as_bytes());
-        file.extend_from_slice(b"\n\n\x01\0");
-        file.extend_from_slice(&(1 + size as u32).to_le_bytes());
-        file.push(b'R');
-        file.resize(file.len() + size, b'M');
-        assert_eq!((reader.registers_place)(LITTLE, &file, 0).length, size, "{good}");
+    for (good, size) in [("R 65535", 65_535), ("R 00776", 776)] {
+        says(reader, LITTLE_TEN, good, size);
     }
-    for bad in ["R 65536", "R 99999", "R 000776", "R ", "R x", "R 1 ", "R 1\r", "R 1\nR 1", "status 1\nstatus 2"] {
-        assert_eq!(refusal(reader, format!("{bad}\n\n").as_bytes()), 5, "{bad}");
-        assert_eq!(refusal(reader, format!("{bad}\n").as_bytes()), 5, "{bad}, no empty line");
-        assert_eq!(refusal(reader, bad.as_bytes()), 4, "{bad}, not ended");
+    for bad in ["R 65536", "R 99999", "R 000776"] {
+        bad_line(reader, LITTLE_TEN, bad);
     }
+    for settings in [LITTLE, LITTLE_TEN] {
+        says(reader, settings, "R 0", 0);
+        for bad in ["R ", "R x", "R 1 ", "R 1\r", "R 1\nR 1", "status 1\nstatus 2"] {
+            bad_line(reader, settings, bad);
+        }
+        kinds(reader, settings);
+    }
+}
+
+fn kinds(reader: &Reader, settings: Settings) {
     let file = trace(b"R 1\nR8\nstatus x\nstatus\ntp \ntsv a\ntdesc <\ntp\n\r\n\n");
     let kinds = [LINE_R, LINE_OTHER, LINE_STATUS, LINE_OTHER, LINE_TP, LINE_TSV, LINE_TDESC, LINE_OTHER, LINE_OTHER];
     for (j, kind) in kinds.into_iter().enumerate() {
-        assert_eq!((reader.line_place)(LITTLE, &file, j).kind, kind, "line {j}");
+        assert_eq!((reader.line_place)(settings, &file, j).kind, kind, "line {j}");
     }
-    assert_eq!((reader.line_place)(LITTLE, &file, 1), Line { refusal: 0, kind: LINE_OTHER, place: 12, length: 2 });
-    assert_eq!((reader.line_place)(LITTLE, &file, 9).refusal, 12);
-    assert_eq!(refusal(reader, b"R8\n\n\x01\0\x01\0\0\0R"), 10);
+    assert_eq!((reader.line_place)(settings, &file, 1), Line { refusal: 0, kind: LINE_OTHER, place: 12, length: 2 });
+    assert_eq!((reader.line_place)(settings, &file, 9).refusal, 12);
+    assert_eq!(refusal(reader, settings, b"R8\n\n\x01\0\x01\0\0\0R"), 10);
 }
 
 fn edits(reader: &Reader) {
@@ -194,7 +229,7 @@ fn end_marks(reader: &Reader) {
 
 /// 256 in either order is a frame's number; so is 1, and 0 is none.
 fn numbers_with_a_zero_byte(reader: &Reader) {
-    for (order, head, tracepoint) in [
+    for (settings, head, tracepoint) in [
         (LITTLE, b"\n\0\x01\0\0\0\0", 256),
         (BIG, b"\n\x01\0\0\0\0\0", 256),
         (LITTLE, b"\n\x01\0\0\0\0\0", 1),
@@ -203,13 +238,13 @@ fn numbers_with_a_zero_byte(reader: &Reader) {
         for (mark, marked) in [(&b""[..], 0), (b"\0\0\0\0", 1)] {
             let file = trace(&[head, mark].concat());
             let mut table = [[0; 3]];
-            assert_eq!((reader.frame_table)(order, &file, &mut table), Count { refusal: 0, count: 1 });
+            assert_eq!((reader.frame_table)(settings, &file, &mut table), Count { refusal: 0, count: 1 });
             assert_eq!(fields(&table[0]), Frame { tracepoint, place: 15, size: 0 });
-            assert_eq!((reader.end_mark)(order, &file), Mark { refusal: 0, marked });
+            assert_eq!((reader.end_mark)(settings, &file), Mark { refusal: 0, marked });
         }
     }
-    for order in [LITTLE, BIG] {
-        assert_eq!((reader.frame_count)(order, &trace(b"\n\0\0\0\0\0\0")).refusal, 18);
+    for settings in [LITTLE, BIG] {
+        assert_eq!((reader.frame_count)(settings, &trace(b"\n\0\0\0\0\0\0")).refusal, 18);
     }
 }
 
@@ -303,7 +338,8 @@ fn longest_files(reader: &Reader) {
     let long = longest::filled(Vec::new(), 1);
     assert_eq!((reader.frame_count)(LITTLE, &long).refusal, 1);
     assert_eq!((reader.frame_count)(LITTLE, &long[1..]).refusal, 3);
-    assert_eq!((reader.frame_count)(2, &long).refusal, 2);
+    assert_eq!((reader.frame_count)(Settings { order: 2, ..LITTLE }, &long).refusal, 2);
+    assert_eq!((reader.frame_count)(Settings { base: 8, ..LITTLE }, &long).refusal, 2);
     for (length, refusal) in [(MAX_LENGTH, 0), (MAX_LENGTH + 1, 1)] {
         let marked = u8::from(refusal == 0);
         assert_eq!((reader.end_mark)(LITTLE, &longest::trace(LITTLE, true, length)), Mark { refusal, marked });
@@ -312,12 +348,14 @@ fn longest_files(reader: &Reader) {
 
 fn all(reader: &Reader) {
     heads_and_frames(reader);
-    blocks(reader);
+    blocks(reader, LITTLE);
+    blocks(reader, LITTLE_TEN);
     memory_and_variables(reader);
     lines(reader);
     edits(reader);
     end_marks(reader);
     marked_edits(reader);
+    base::all(reader);
     dat_headers(reader);
     dat_ranges(reader);
     longest_files(reader);

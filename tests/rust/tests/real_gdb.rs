@@ -1,18 +1,18 @@
-//! Traces that gdb saved: the library and the second reader agree on them, and with what gdb reads in them.
+//! Traces as gdb saved them: the library and the second reader agree on them, and with what gdb reads in them.
 
 use std::collections::HashMap;
 use std::fs;
+use std::io::ErrorKind;
 use tufakpeni_tests::answers::SECOND;
-use tufakpeni_tests::c::Block;
+use tufakpeni_tests::c::{Block, Settings};
 use tufakpeni_tests::compare::Comparer;
 use tufakpeni_tests::library::LIBRARY;
 use tufakpeni_tests::make::Random;
 use tufakpeni_tests::reader::{fields, Reader, Record};
 
 const FOLDER: &str = concat!(env!("CARGO_MANIFEST_DIR"), "/../real/gdb");
-const HEAD: usize = 8;
 
-/// A saved trace: its byte order, and of it with a decimal R line the number of its frames or the refusal.
+/// A saved trace: its byte order, and the number of its frames or its refusal.
 struct Saved {
     name: &'static str,
     order: u8,
@@ -23,6 +23,7 @@ const fn saved(name: &'static str, order: u8, frames: Result<usize, u8>) -> Save
     Saved { name, order, frames }
 }
 
+/// Two are refused: the stub broke a frame of circular, and in zeronum frames stand behind a head of number 0.
 const SAVED: [Saved; 17] = [
     saved("badmem", 0, Ok(3)),
     saved("bare", 0, Ok(3)),
@@ -49,23 +50,19 @@ impl Saved {
         fs::read(&path).unwrap_or_else(|error| panic!("{path}: {error}"))
     }
 
-    /// The trace with the number of its R line, which is the first, written in decimal.
-    fn decimal(&self) -> Vec<u8> {
-        let bytes = self.bytes();
-        let line = bytes[HEAD..].split(|&byte| byte == b'\n').next().expect("a line");
-        let digits = std::str::from_utf8(line).ok().and_then(|line| line.strip_prefix("R ")).expect("an R line");
-        let size = usize::from_str_radix(digits, 16).expect("a hexadecimal number");
-        [&bytes[..HEAD], format!("R {size}").as_bytes(), &bytes[HEAD + line.len()..]].concat()
-    }
-
     /// Whether it ends in the end mark, as all do but the one that gdb saved again from a file.
     fn marked(&self) -> bool {
         self.name != "resave"
     }
 
-    fn read_by_gdb(&self) -> Vec<String> {
-        let path = format!("{FOLDER}/expected/{}.gdb.json", self.name);
-        let text = fs::read_to_string(&path).unwrap_or_else(|error| panic!("{path}: {error}"));
+    /// gdb's lines of this sort about the frames; it has none of registers where no frame shows any.
+    fn read_by_gdb(&self, sort: &str) -> Vec<String> {
+        let path = format!("{FOLDER}/expected/{}.{sort}.json", self.name);
+        let text = match fs::read_to_string(&path) {
+            Ok(text) => text,
+            Err(error) if sort == "regs" && error.kind() == ErrorKind::NotFound => String::new(),
+            Err(error) => panic!("{path}: {error}"),
+        };
         text.lines().filter(|line| line.starts_with("{\"frame\"")).map(str::to_string).collect()
     }
 }
@@ -82,27 +79,27 @@ fn library_and_second_reader_agree() {
     let random = &mut Random::new(1);
     let mut comparer = Comparer::thorough(&LIBRARY);
     for saved in &SAVED {
-        for bytes in [saved.bytes(), saved.decimal()] {
-            for order in [0, 1] {
-                let compared = comparer.trace(random, order, &bytes).map(drop);
-                let compared = compared.and_then(|()| comparer.pair(random, order, &bytes, &bytes));
-                compared.unwrap_or_else(|difference| panic!("{}, {} bytes: {difference:?}", saved.name, bytes.len()));
-            }
+        let bytes = saved.bytes();
+        for (order, base) in [(0, 16), (1, 16), (0, 10), (1, 10), (saved.order, 8)] {
+            let compared = comparer.trace(random, Settings { order, base }, &bytes, &bytes);
+            compared.unwrap_or_else(|difference| panic!("{}: {difference:?}", saved.name));
         }
     }
-    println!("gdb's traces: {} files in 2 forms, {} calls compared, no difference", SAVED.len(), comparer.calls);
+    println!("gdb's traces: {} files, {} calls compared, no difference", SAVED.len(), comparer.calls);
 }
 
+/// In base 16, the default, and in base 10, where each has an R line with a letter in it.
 #[test]
 fn each_form_has_its_refusal() {
     for saved in &SAVED {
-        assert_eq!((LIBRARY.frame_count)(saved.order, &saved.bytes()).refusal, 5, "{}", saved.name);
-        let count = (LIBRARY.frame_count)(saved.order, &saved.decimal());
+        let (name, bytes, settings) = (saved.name, saved.bytes(), (LIBRARY.default_settings)(saved.order));
+        let count = (LIBRARY.frame_count)(settings, &bytes);
         let frames = if count.refusal == 0 { Ok(count.count) } else { Err(count.refusal) };
-        assert_eq!(frames, saved.frames, "{}", saved.name);
-        let mark = (LIBRARY.end_mark)(saved.order, &saved.decimal());
+        assert_eq!(frames, saved.frames, "{name}");
+        let mark = (LIBRARY.end_mark)(settings, &bytes);
         let marked = if mark.refusal == 0 { Ok(mark.marked == 1) } else { Err(mark.refusal) };
-        assert_eq!(marked, saved.frames.map(|_| saved.marked()), "{}", saved.name);
+        assert_eq!(marked, saved.frames.map(|_| saved.marked()), "{name}");
+        assert_eq!((LIBRARY.frame_count)(Settings { base: 10, ..settings }, &bytes).refusal, 5, "{name}");
     }
 }
 
@@ -110,6 +107,7 @@ fn each_form_has_its_refusal() {
 struct Checked<'s> {
     reader: &'s Reader,
     saved: &'s Saved,
+    settings: Settings,
     bytes: Vec<u8>,
     /// The variables' numbers by their names.
     variables: HashMap<String, u32>,
@@ -117,20 +115,20 @@ struct Checked<'s> {
 
 impl<'s> Checked<'s> {
     fn new(reader: &'s Reader, saved: &'s Saved) -> Self {
-        let bytes = saved.decimal();
-        let lines = (0..).map(|j| (reader.line_place)(saved.order, &bytes, j)).take_while(|line| line.refusal == 0);
+        let (settings, bytes) = ((reader.default_settings)(saved.order), saved.bytes());
+        let lines = (0..).map(|j| (reader.line_place)(settings, &bytes, j)).take_while(|line| line.refusal == 0);
         let variables = lines.filter_map(|line| variable(&bytes[line.place..line.place + line.length])).collect();
-        Checked { reader, saved, bytes, variables }
+        Checked { reader, saved, settings, bytes, variables }
     }
 
     fn blocks(&self, n: usize) -> impl DoubleEndedIterator<Item = Block> {
-        let blocks = (0..).map(|k| (self.reader.block_record)(self.saved.order, &self.bytes, n, k));
+        let blocks = (0..).map(|k| (self.reader.block_record)(self.settings, &self.bytes, n, k));
         blocks.take_while(|block| block.refusal == 0).collect::<Vec<_>>().into_iter()
     }
 
     /// The byte at an address, by the memory question.
     fn byte(&self, n: usize, address: u64) -> u8 {
-        let part = (self.reader.memory_place)(self.saved.order, &self.bytes, n, address);
+        let part = (self.reader.memory_place)(self.settings, &self.bytes, n, address);
         assert_eq!(part.refusal, 0, "{}: frame {n}, address {address}", self.saved.name);
         self.bytes[part.place]
     }
@@ -153,20 +151,60 @@ impl<'s> Checked<'s> {
     }
 }
 
+impl Checked<'_> {
+    /// Holds the registers of every frame that has any to gdb's lines about them; how many have.
+    fn registers(&self, frames: usize) -> usize {
+        let lines = self.saved.read_by_gdb("regs");
+        let shown: HashMap<_, _> = lines.iter().map(|line| (between(line, "\"frame\": ", ","), line)).collect();
+        let mut compared = 0;
+        for n in 0..frames {
+            let part = (self.reader.registers_place)(self.settings, &self.bytes, n);
+            // Without a register block gdb shows a program counter, which it takes from the tracepoint.
+            if self.blocks(n).all(|block| block.letter != b'R') {
+                assert_eq!(part.refusal, 12, "{}: frame {n}", self.saved.name);
+                continue;
+            }
+            let bytes = &self.bytes[part.place..part.place + part.length];
+            let expected = registers(shown[&n.to_string()[..]]);
+            assert_eq!((part.refusal, bytes), (0, &expected[..]), "{}: frame {n}", self.saved.name);
+            compared += 1;
+        }
+        compared
+    }
+}
+
 /// The name and number that a line `tsv NUMBER:VALUE:BUILTIN:NAME` gives, all of them hexadecimal.
 fn variable(line: &[u8]) -> Option<(String, u32)> {
     let line = std::str::from_utf8(line).ok()?.strip_prefix("tsv ")?;
     let mut parts = line.split(':');
     let number = u32::from_str_radix(parts.next()?, 16).ok()?;
     let name = parts.nth(2)?;
-    let letters = (0..name.len()).step_by(2).map(|i| u8::from_str_radix(&name[i..i + 2], 16));
-    let name = String::from_utf8(letters.collect::<Result<_, _>>().ok()?).ok()?;
+    let name = String::from_utf8(from_hex(name)).ok()?;
     Some((format!("${name}"), number))
 }
 
 fn between<'t>(text: &'t str, start: &str, end: &str) -> &'t str {
     let (_, rest) = text.split_once(start).unwrap_or_else(|| panic!("no {start} in {text}"));
     rest.split_once(end).unwrap_or_else(|| panic!("no {end} in {rest}")).0
+}
+
+fn from_hex(text: &str) -> Vec<u8> {
+    let pairs = (0..text.len()).step_by(2).map(|i| u8::from_str_radix(&text[i..i + 2], 16));
+    pairs.collect::<Result<_, _>>().expect("bytes in hexadecimal")
+}
+
+/// The bytes of all registers in gdb's line, where each is name, offset and bytes.
+fn registers(line: &str) -> Vec<u8> {
+    let parts = |register: &str| {
+        let [_, offset, contents] = register.split(", ").collect::<Vec<_>>().try_into().expect("three parts");
+        (offset.parse().expect("an offset"), from_hex(contents.trim_matches('"')))
+    };
+    let mut registers: Vec<_> = between(line, "\"regs\": [[", "]]").split("], [").map(parts).collect();
+    registers.sort_unstable();
+    registers.into_iter().fold(Vec::new(), |before: Vec<u8>, (offset, contents)| {
+        assert_eq!(before.len(), offset, "a gap between registers: {line}");
+        [before, contents].concat()
+    })
 }
 
 /// The stretches of memory in gdb's line: address, length and bytes.
@@ -188,20 +226,21 @@ fn values(line: &str) -> Vec<(&str, &str)> {
 fn reads_as_gdb(reader: &Reader) {
     // gdb takes the number 0 for its end mark, and reads the broken trace up to the fault.
     let read = SAVED.iter().filter(|saved| !["zeronum", "circular"].contains(&saved.name));
-    let mut frames = 0;
+    let (mut frames, mut with_registers) = (0, 0);
     for saved in read {
         let checked = Checked::new(reader, saved);
-        let lines = saved.read_by_gdb();
+        let lines = saved.read_by_gdb("gdb");
         let mut table = vec![[0; 3]; lines.len()];
-        let count = (reader.frame_table)(saved.order, &checked.bytes, &mut table);
+        let count = (reader.frame_table)(checked.settings, &checked.bytes, &mut table);
         assert_eq!((count.refusal, count.count), (0, lines.len()), "{}", saved.name);
         for (n, line) in lines.iter().enumerate() {
             checked.frame(n, &table, line);
         }
         frames += lines.len();
+        with_registers += checked.registers(lines.len());
     }
-    println!("gdb's traces: {frames} frames as gdb reads them");
-    assert!(frames > 100);
+    println!("gdb's traces: {frames} frames as gdb reads them, {with_registers} of them with registers");
+    assert!(frames > 100 && with_registers > 30);
 }
 
 #[test]

@@ -1,15 +1,17 @@
 //! That the comparison can fail: readers with one slip each are told from the second reader by the made files.
 
-use tufakpeni_tests::answers::{summary, Answer, SECOND};
-use tufakpeni_tests::c::{Block, Count, DatSummary, Length, Mark, PairPart, Part, Place, Selection, Value};
+use tufakpeni_tests::answers::{read, summary, Answer, SECOND};
+use tufakpeni_tests::c::{Block, Count, DatSummary, Length, Mark, PairPart, Part, Place, Selection, Settings, Value};
 use tufakpeni_tests::compare::Comparer;
 use tufakpeni_tests::make::gdb::END_MARK;
 use tufakpeni_tests::make::{any_dat, any_trace, longest, Random};
 use tufakpeni_tests::reader::{Reader, Record};
 use tufakpeni_tests::run::seed;
 use tufakpeni_tests::second::dat::{self, CpuRange};
-use tufakpeni_tests::second::gdb::Trace;
 use tufakpeni_tests::second::{Refusal, MAX_LENGTH};
+
+#[path = "slips/base.rs"]
+mod base;
 
 /// By how many made files a slip has to be seen at the latest: far fewer than the gate compares.
 const FILES: usize = 5_000;
@@ -25,9 +27,9 @@ fn seen_on_traces(reader: &Reader) -> bool {
 
 fn seen_on_longest_pairs(reader: &Reader) -> bool {
     let mut comparer = Comparer::new(reader);
-    [1, 0].into_iter().flat_map(|beyond| longest::joined(0, beyond)).any(|pair| {
+    [1, 0].into_iter().flat_map(|beyond| longest::joined((SECOND.default_settings)(0), beyond)).any(|pair| {
         let random = &mut Random::new(seed());
-        comparer.pair(random, pair.order, pair.made.file(), &pair.partner).is_err()
+        comparer.pair(random, pair.settings, pair.made.file(), &pair.partner).is_err()
     })
 }
 
@@ -36,8 +38,13 @@ fn seen_on_dats(reader: &Reader) -> bool {
     (0..FILES).any(|index| comparer.made_dat(&any_dat(&mut Random::of(seed(), index))).is_err())
 }
 
+fn seen_in_defaults(reader: &Reader) -> bool {
+    Comparer::new(reader).default_settings().is_err()
+}
+
 #[test]
 fn the_second_reader_does_not_differ_from_itself() {
+    assert!(!seen_in_defaults(&SECOND));
     assert!(!seen_on_traces(&SECOND));
     assert!(!seen_on_dats(&SECOND));
 }
@@ -45,7 +52,7 @@ fn the_second_reader_does_not_differ_from_itself() {
 type Slip = (&'static str, Reader);
 
 const QUESTION_SLIPS: [Slip; 13] = [
-    ("order not looked at", Reader { frame_count: |_, file| (SECOND.frame_count)(0, file), ..SECOND }),
+    ("order not looked at", Reader { frame_count: little_always, ..SECOND }),
     ("R8 taken as an R line", Reader { frame_count: r8_as_r_line, ..SECOND }),
     ("a missing end before a bad line", Reader { frame_count: end_first, ..SECOND }),
     ("a short block before no R line", Reader { frame_count: short_first, ..SECOND }),
@@ -113,17 +120,27 @@ const DAT_SLIPS: [Slip; 8] = [
     ("place of options that are not there", Reader { dat_read: options_place, ..SECOND }),
 ];
 
+fn all_seen(slips: &[Slip], seen: fn(&Reader) -> bool) {
+    for (name, slip) in slips {
+        assert!(seen(slip), "not seen: {name}");
+    }
+}
+
 #[test]
 fn slips_are_seen() {
-    for (name, slip) in QUESTION_SLIPS.iter().chain(&MARK_SLIPS).chain(&EDIT_SLIPS).chain(&MARKED_EDIT_SLIPS) {
-        assert!(seen_on_traces(slip), "not seen: {name}");
+    for slips in [&QUESTION_SLIPS[..], &MARK_SLIPS, &EDIT_SLIPS, &MARKED_EDIT_SLIPS] {
+        all_seen(slips, seen_on_traces);
     }
-    for (name, slip) in &LONGEST_SLIPS {
-        assert!(seen_on_longest_pairs(slip), "not seen: {name}");
+    all_seen(&LONGEST_SLIPS, seen_on_longest_pairs);
+    all_seen(&DAT_SLIPS, seen_on_dats);
+}
+
+#[test]
+fn slips_about_the_base_are_seen() {
+    for slips in [&base::LINE_SLIPS[..], &base::BASE_SLIPS, &base::CALL_SLIPS] {
+        all_seen(slips, seen_on_traces);
     }
-    for (name, slip) in &DAT_SLIPS {
-        assert!(seen_on_dats(slip), "not seen: {name}");
-    }
+    all_seen(&base::DEFAULT_SLIPS, seen_in_defaults);
 }
 
 #[test]
@@ -131,14 +148,18 @@ fn whole_numbers_and_all_pairs_are_no_slip() {
     assert!(!seen_on_dats(&Reader { dat_read: |file| read_with(file, bad, two_overlap), ..SECOND }));
 }
 
+fn little_always(settings: Settings, file: &[u8]) -> Count {
+    (SECOND.frame_count)(Settings { order: 0, ..settings }, file)
+}
+
 /// The place and length of frame n's data, where the file is accepted.
-fn data(order: u8, file: &[u8], n: usize) -> Option<(usize, &[u8])> {
-    let frame = (SECOND.frame_place)(order, file, n);
+fn data(settings: Settings, file: &[u8], n: usize) -> Option<(usize, &[u8])> {
+    let frame = (SECOND.frame_place)(settings, file, n);
     (frame.refusal == 0).then(|| (frame.place, &file[frame.place..frame.place + frame.length]))
 }
 
-fn blocks(order: u8, file: &[u8], n: usize) -> impl DoubleEndedIterator<Item = Block> {
-    let blocks = (0..).map(|k| (SECOND.block_record)(order, file, n, k));
+fn blocks(settings: Settings, file: &[u8], n: usize) -> impl DoubleEndedIterator<Item = Block> {
+    let blocks = (0..).map(|k| (SECOND.block_record)(settings, file, n, k));
     blocks.take_while(|block| block.refusal == 0).collect::<Vec<_>>().into_iter()
 }
 
@@ -151,12 +172,12 @@ fn instead<A: Answer>(right: A, wrong: impl FnOnce() -> Option<A>) -> A {
 }
 
 /// The count of the file with each line `R8` made an R line.
-fn r8_as_r_line(order: u8, file: &[u8]) -> Count {
+fn r8_as_r_line(settings: Settings, file: &[u8]) -> Count {
     let mut read = file.to_vec();
     while let Some(place) = read.windows(4).position(|bytes| bytes == b"\nR8\n") {
         read.insert(place + 2, b' ');
     }
-    (SECOND.frame_count)(order, &read)
+    (SECOND.frame_count)(settings, &read)
 }
 
 /// The answer with one refusal in another's place, where this is so.
@@ -168,83 +189,83 @@ fn swapped<A: Answer>(right: A, from: Refusal, to: Refusal, so: bool) -> A {
     }
 }
 
-fn end_first(order: u8, file: &[u8]) -> Count {
+fn end_first(settings: Settings, file: &[u8]) -> Count {
     let unended = !file.windows(2).any(|bytes| bytes == b"\n\n");
-    swapped((SECOND.frame_count)(order, file), Refusal::BadLine, Refusal::NoEmptyLine, unended)
+    swapped((SECOND.frame_count)(settings, file), Refusal::BadLine, Refusal::NoEmptyLine, unended)
 }
 
-fn short_first(order: u8, file: &[u8]) -> Count {
-    let right = (SECOND.frame_count)(order, file);
+fn short_first(settings: Settings, file: &[u8]) -> Count {
+    let right = (SECOND.frame_count)(settings, file);
     swapped(right, Refusal::NoRegisterSize, Refusal::BlockPastData, file.ends_with(b"R"))
 }
 
 /// What stands from a bad end mark on, where that refuses the file, and the number of frames before it.
-fn bad_mark(order: u8, file: &[u8]) -> Option<(usize, &[u8])> {
-    if (SECOND.frame_count)(order, file).refusal != Refusal::BadMark as u8 {
+fn bad_mark(settings: Settings, file: &[u8]) -> Option<(usize, &[u8])> {
+    if (SECOND.frame_count)(settings, file).refusal != Refusal::BadMark as u8 {
         return None;
     }
-    let unmarked = |end: &usize| (SECOND.end_mark)(order, &file[..*end]) == Mark { refusal: 0, marked: 0 };
+    let unmarked = |end: &usize| (SECOND.end_mark)(settings, &file[..*end]) == Mark { refusal: 0, marked: 0 };
     let place = (0..file.len()).rev().find(unmarked)?;
-    Some(((SECOND.frame_count)(order, &file[..place]).count, &file[place..]))
+    Some(((SECOND.frame_count)(settings, &file[..place]).count, &file[place..]))
 }
 
 /// The count of the frames before a bad mark that is let through, where it is of this sort.
-fn let_through(order: u8, file: &[u8], sort: fn(&[u8]) -> bool) -> Count {
-    match bad_mark(order, file) {
+fn let_through(settings: Settings, file: &[u8], sort: fn(&[u8]) -> bool) -> Count {
+    match bad_mark(settings, file) {
         Some((count, mark)) if sort(mark) => Count { refusal: 0, count },
-        _ => (SECOND.frame_count)(order, file),
+        _ => (SECOND.frame_count)(settings, file),
     }
 }
 
-fn any_four_bytes(order: u8, file: &[u8]) -> Count {
-    let_through(order, file, |mark| mark.len() == END_MARK.len())
+fn any_four_bytes(settings: Settings, file: &[u8]) -> Count {
+    let_through(settings, file, |mark| mark.len() == END_MARK.len())
 }
 
-fn bytes_behind(order: u8, file: &[u8]) -> Count {
-    let_through(order, file, |mark| mark.starts_with(END_MARK))
+fn bytes_behind(settings: Settings, file: &[u8]) -> Count {
+    let_through(settings, file, |mark| mark.starts_with(END_MARK))
 }
 
-fn short_mark_as_head(order: u8, file: &[u8]) -> Count {
-    let short = bad_mark(order, file).is_some_and(|(_, mark)| mark.len() < END_MARK.len());
-    swapped((SECOND.frame_count)(order, file), Refusal::BadMark, Refusal::ShortHead, short)
+fn short_mark_as_head(settings: Settings, file: &[u8]) -> Count {
+    let short = bad_mark(settings, file).is_some_and(|(_, mark)| mark.len() < END_MARK.len());
+    swapped((SECOND.frame_count)(settings, file), Refusal::BadMark, Refusal::ShortHead, short)
 }
 
 /// The count of the file with each number 0 made another.
-fn number_zero_read(order: u8, file: &[u8]) -> Count {
+fn number_zero_read(settings: Settings, file: &[u8]) -> Count {
     let mut read = file.to_vec();
-    while let Some((_, mark)) = bad_mark(order, &read).filter(|(_, mark)| mark.len() >= 6) {
+    while let Some((_, mark)) = bad_mark(settings, &read).filter(|(_, mark)| mark.len() >= 6) {
         let place = read.len() - mark.len();
         read[place] = 1;
     }
-    (SECOND.frame_count)(order, &read)
+    (SECOND.frame_count)(settings, &read)
 }
 
-fn size_ahead_of_mark(order: u8, file: &[u8]) -> Count {
-    let past = number_zero_read(order, file).refusal == Refusal::DataPastFile as u8;
-    swapped((SECOND.frame_count)(order, file), Refusal::BadMark, Refusal::DataPastFile, past)
+fn size_ahead_of_mark(settings: Settings, file: &[u8]) -> Count {
+    let past = number_zero_read(settings, file).refusal == Refusal::DataPastFile as u8;
+    swapped((SECOND.frame_count)(settings, file), Refusal::BadMark, Refusal::DataPastFile, past)
 }
 
-fn first_byte_alone(order: u8, file: &[u8]) -> Count {
-    let right = (SECOND.frame_count)(order, file);
-    let begins = |n| file[(SECOND.frame_place)(order, file, n).place - 6] == 0;
+fn first_byte_alone(settings: Settings, file: &[u8]) -> Count {
+    let right = (SECOND.frame_count)(settings, file);
+    let begins = |n| file[(SECOND.frame_place)(settings, file, n).place - 6] == 0;
     if (0..right.count).any(begins) {
         return Count::refused(Refusal::BadMark as u8);
     }
     right
 }
 
-fn mark_as_frame(order: u8, file: &[u8]) -> Count {
-    let right = (SECOND.frame_count)(order, file);
-    Count { count: right.count + usize::from(is_marked(order, file)), ..right }
+fn mark_as_frame(settings: Settings, file: &[u8]) -> Count {
+    let right = (SECOND.frame_count)(settings, file);
+    Count { count: right.count + usize::from(is_marked(settings, file)), ..right }
 }
 
-fn last_four_bytes(order: u8, file: &[u8]) -> Mark {
-    let right = (SECOND.end_mark)(order, file);
+fn last_four_bytes(settings: Settings, file: &[u8]) -> Mark {
+    let right = (SECOND.end_mark)(settings, file);
     instead(right, || Some(Mark { marked: file.ends_with(END_MARK).into(), ..right }))
 }
 
-fn mark_of_refused(order: u8, file: &[u8]) -> Mark {
-    let right = (SECOND.end_mark)(order, file);
+fn mark_of_refused(settings: Settings, file: &[u8]) -> Mark {
+    let right = (SECOND.end_mark)(settings, file);
     let marked = if right.refusal == 0 { right.marked } else { file.ends_with(END_MARK).into() };
     Mark { marked, ..right }
 }
@@ -255,19 +276,19 @@ fn wrong_first(file: &[u8]) -> DatSummary {
     swapped((SECOND.dat_read)(file), Refusal::FieldPastFile, Refusal::BadConstant, wrong)
 }
 
-fn registers_by_letter(order: u8, file: &[u8], n: usize) -> Place {
-    let right = (SECOND.registers_place)(order, file, n);
+fn registers_by_letter(settings: Settings, file: &[u8], n: usize) -> Place {
+    let right = (SECOND.registers_place)(settings, file, n);
     instead(right, || {
-        let (place, data) = data(order, file, n)?;
+        let (place, data) = data(settings, file, n)?;
         let letter = data.iter().position(|&byte| byte == b'R')?;
         Some(Place { place: place + letter + 1, ..right })
     })
 }
 
-fn latest_registers(order: u8, file: &[u8], n: usize) -> Place {
-    let right = (SECOND.registers_place)(order, file, n);
+fn latest_registers(settings: Settings, file: &[u8], n: usize) -> Place {
+    let right = (SECOND.registers_place)(settings, file, n);
     instead(right, || {
-        let latest = blocks(order, file, n).rfind(|block| block.letter == b'R')?;
+        let latest = blocks(settings, file, n).rfind(|block| block.letter == b'R')?;
         Some(Place { place: latest.place + 1, ..right })
     })
 }
@@ -278,210 +299,210 @@ fn memory_in(block: &Block, address: u64) -> Place {
     Place { refusal: 0, place: block.place + 11 + offset, length: block.length - offset }
 }
 
-fn latest_memory(order: u8, file: &[u8], n: usize, address: u64) -> Place {
+fn latest_memory(settings: Settings, file: &[u8], n: usize, address: u64) -> Place {
     let covers = |block: &Block| block.letter == b'M' && address.wrapping_sub(block.address) < block.length as u64;
-    instead((SECOND.memory_place)(order, file, n, address), || {
-        let latest = blocks(order, file, n).rfind(covers)?;
+    instead((SECOND.memory_place)(settings, file, n, address), || {
+        let latest = blocks(settings, file, n).rfind(covers)?;
         Some(memory_in(&latest, address))
     })
 }
 
-fn unwrapped_memory(order: u8, file: &[u8], n: usize, address: u64) -> Place {
+fn unwrapped_memory(settings: Settings, file: &[u8], n: usize, address: u64) -> Place {
     let covers = |block: &Block| {
         let offset = address.checked_sub(block.address);
         block.letter == b'M' && offset.is_some_and(|offset| offset < block.length as u64)
     };
-    instead((SECOND.memory_place)(order, file, n, address), || {
-        let found = blocks(order, file, n).find(covers);
+    instead((SECOND.memory_place)(settings, file, n, address), || {
+        let found = blocks(settings, file, n).find(covers);
         Some(found.map_or(Place::refused(Refusal::NotFound as u8), |block| memory_in(&block, address)))
     })
 }
 
-fn latest_variable(order: u8, file: &[u8], n: usize, number: u32) -> Value {
-    let right = (SECOND.variable)(order, file, n, number);
+fn latest_variable(settings: Settings, file: &[u8], n: usize, number: u32) -> Value {
+    let right = (SECOND.variable)(settings, file, n, number);
     instead(right, || {
-        let latest = blocks(order, file, n).rfind(|block| block.letter == b'V' && block.number == number)?;
+        let latest = blocks(settings, file, n).rfind(|block| block.letter == b'V' && block.number == number)?;
         Some(Value { value: latest.value, ..right })
     })
 }
 
-fn unsigned_variable(order: u8, file: &[u8], n: usize, number: u32) -> Value {
-    let right = (SECOND.variable)(order, file, n, number);
+fn unsigned_variable(settings: Settings, file: &[u8], n: usize, number: u32) -> Value {
+    let right = (SECOND.variable)(settings, file, n, number);
     Value { value: right.value & i64::MAX, ..right }
 }
 
-fn left_field(order: u8, file: &[u8], n: usize, k: usize) -> Block {
-    let right = (SECOND.block_record)(order, file, n, k);
+fn left_field(settings: Settings, file: &[u8], n: usize, k: usize) -> Block {
+    let right = (SECOND.block_record)(settings, file, n, k);
     Block { place: if right.refusal == 0 { right.place } else { 1 }, ..right }
 }
 
-fn records_first(order: u8, file: &[u8], records: &mut [Record]) -> Count {
-    let mut table = vec![[0; 3]; (SECOND.frame_count)(order, file).count];
-    (SECOND.frame_table)(order, file, &mut table);
+fn records_first(settings: Settings, file: &[u8], records: &mut [Record]) -> Count {
+    let mut table = vec![[0; 3]; (SECOND.frame_count)(settings, file).count];
+    (SECOND.frame_table)(settings, file, &mut table);
     for (record, frame) in records.iter_mut().zip(table) {
         *record = frame;
     }
-    (SECOND.frame_table)(order, file, records)
+    (SECOND.frame_table)(settings, file, records)
 }
 
-fn record_too_many(order: u8, file: &[u8], records: &mut [Record]) -> Count {
-    let answer = (SECOND.frame_table)(order, file, records);
+fn record_too_many(settings: Settings, file: &[u8], records: &mut [Record]) -> Count {
+    let answer = (SECOND.frame_table)(settings, file, records);
     if let Some(record) = records.get_mut(answer.count) {
         record[0] ^= 1 << 63;
     }
     answer
 }
 
-fn frames_first(order: u8, file: &[u8], selection: Selection, out: &mut [u8]) -> Length {
+fn frames_first(settings: Settings, file: &[u8], selection: Selection, out: &mut [u8]) -> Length {
     let mut whole = vec![0; file.len()];
-    let length = (SECOND.cut)(order, file, selection, &mut whole).length.min(out.len());
+    let length = (SECOND.cut)(settings, file, selection, &mut whole).length.min(out.len());
     out[..length].copy_from_slice(&whole[..length]);
-    (SECOND.cut)(order, file, selection, out)
+    (SECOND.cut)(settings, file, selection, out)
 }
 
-fn byte_too_many(order: u8, file: &[u8], selection: Selection, out: &mut [u8]) -> Length {
-    let answer = (SECOND.cut)(order, file, selection, out);
+fn byte_too_many(settings: Settings, file: &[u8], selection: Selection, out: &mut [u8]) -> Length {
+    let answer = (SECOND.cut)(settings, file, selection, out);
     if let Some(byte) = out.get_mut(answer.length) {
         *byte = !*byte;
     }
     answer
 }
 
-fn high_left_out(order: u8, file: &[u8], mut selection: Selection, out: &mut [u8]) -> Length {
+fn high_left_out(settings: Settings, file: &[u8], mut selection: Selection, out: &mut [u8]) -> Length {
     for range in selection.ranges.iter_mut().filter(|range| range.low < range.high) {
         range.high -= 1;
     }
-    (SECOND.cut)(order, file, selection, out)
+    (SECOND.cut)(settings, file, selection, out)
 }
 
-fn all_ranges_judged(order: u8, file: &[u8], selection: Selection, out: &mut [u8]) -> Length {
+fn all_ranges_judged(settings: Settings, file: &[u8], selection: Selection, out: &mut [u8]) -> Length {
     if selection.ranges.iter().any(|range| range.low > range.high) {
         return Length::refused(Refusal::BadArgument as u8);
     }
-    (SECOND.cut)(order, file, selection, out)
+    (SECOND.cut)(settings, file, selection, out)
 }
 
-fn only_one_keeps(order: u8, file: &[u8], selection: Selection, out: &mut [u8]) -> Length {
+fn only_one_keeps(settings: Settings, file: &[u8], selection: Selection, out: &mut [u8]) -> Length {
     let keep = u8::from(selection.keep == 1);
-    (SECOND.cut)(order, file, Selection { keep, ..selection }, out)
+    (SECOND.cut)(settings, file, Selection { keep, ..selection }, out)
 }
 
-fn openings_first(order: u8, first: &[u8], second: &[u8], out: &mut [u8]) -> Length {
-    let (one, other) = ((SECOND.frame_count)(order, first), (SECOND.frame_count)(order, second));
+fn openings_first(settings: Settings, first: &[u8], second: &[u8], out: &mut [u8]) -> Length {
+    let (one, other) = ((SECOND.frame_count)(settings, first), (SECOND.frame_count)(settings, second));
     if one.refusal == 0 && other.refusal > Refusal::BadArgument as u8 {
         return Length::refused(Refusal::OpeningsDiffer as u8);
     }
-    (SECOND.join)(order, first, second, out)
+    (SECOND.join)(settings, first, second, out)
 }
 
-fn border_off(order: u8, first: &[u8], second: &[u8], n: usize) -> PairPart {
-    let border = (SECOND.frame_count)(order, first).count;
-    (SECOND.pair_place)(order, first, second, if n == border { n + 1 } else { n })
+fn border_off(settings: Settings, first: &[u8], second: &[u8], n: usize) -> PairPart {
+    let border = (SECOND.frame_count)(settings, first).count;
+    (SECOND.pair_place)(settings, first, second, if n == border { n + 1 } else { n })
 }
 
-fn first_only(order: u8, first: &[u8], second: &[u8], n: usize, number: u32) -> Value {
-    let right = (SECOND.pair_variable)(order, first, second, n, number);
-    instead(right, || Some((SECOND.variable)(order, first, n, number)))
+fn first_only(settings: Settings, first: &[u8], second: &[u8], n: usize, number: u32) -> Value {
+    let right = (SECOND.pair_variable)(settings, first, second, n, number);
+    instead(right, || Some((SECOND.variable)(settings, first, n, number)))
 }
 
-fn is_marked(order: u8, file: &[u8]) -> bool {
-    (SECOND.end_mark)(order, file).marked == 1
+fn is_marked(settings: Settings, file: &[u8]) -> bool {
+    (SECOND.end_mark)(settings, file).marked == 1
 }
 
 /// A file without its end mark, if it has one.
-fn unmarked(order: u8, file: &[u8]) -> &[u8] {
-    &file[..file.len() - if is_marked(order, file) { END_MARK.len() } else { 0 }]
+fn unmarked(settings: Settings, file: &[u8]) -> &[u8] {
+    &file[..file.len() - if is_marked(settings, file) { END_MARK.len() } else { 0 }]
 }
 
-fn cut_without_mark(order: u8, file: &[u8], selection: Selection, out: &mut [u8]) -> Length {
-    (SECOND.cut)(order, unmarked(order, file), selection, out)
+fn cut_without_mark(settings: Settings, file: &[u8], selection: Selection, out: &mut [u8]) -> Length {
+    (SECOND.cut)(settings, unmarked(settings, file), selection, out)
 }
 
 /// Only where there are frames, and none is selected.
-fn empty_cut_without_mark(order: u8, file: &[u8], selection: Selection, out: &mut [u8]) -> Length {
+fn empty_cut_without_mark(settings: Settings, file: &[u8], selection: Selection, out: &mut [u8]) -> Length {
     let mut whole = vec![0; file.len()];
-    let Length { length, .. } = (SECOND.cut)(order, file, selection, &mut whole);
-    let none = (SECOND.frame_count)(order, &whole[..length]) == Count { refusal: 0, count: 0 };
-    if none && (SECOND.frame_count)(order, file).count > 0 {
-        return cut_without_mark(order, file, selection, out);
+    let Length { length, .. } = (SECOND.cut)(settings, file, selection, &mut whole);
+    let none = (SECOND.frame_count)(settings, &whole[..length]) == Count { refusal: 0, count: 0 };
+    if none && (SECOND.frame_count)(settings, file).count > 0 {
+        return cut_without_mark(settings, file, selection, out);
     }
-    (SECOND.cut)(order, file, selection, out)
+    (SECOND.cut)(settings, file, selection, out)
 }
 
-fn cut_before_mark(order: u8, file: &[u8], selection: Selection, out: &mut [u8]) -> Length {
-    cut_without_mark(order, file, selection, out);
-    (SECOND.cut)(order, file, selection, out)
+fn cut_before_mark(settings: Settings, file: &[u8], selection: Selection, out: &mut [u8]) -> Length {
+    cut_without_mark(settings, file, selection, out);
+    (SECOND.cut)(settings, file, selection, out)
 }
 
-fn first_mark_only(order: u8, first: &[u8], second: &[u8], out: &mut [u8]) -> Length {
-    (SECOND.join)(order, first, unmarked(order, second), out)
+fn first_mark_only(settings: Settings, first: &[u8], second: &[u8], out: &mut [u8]) -> Length {
+    (SECOND.join)(settings, first, unmarked(settings, second), out)
 }
 
-fn second_mark_only(order: u8, first: &[u8], second: &[u8], out: &mut [u8]) -> Length {
-    (SECOND.join)(order, unmarked(order, first), second, out)
+fn second_mark_only(settings: Settings, first: &[u8], second: &[u8], out: &mut [u8]) -> Length {
+    (SECOND.join)(settings, unmarked(settings, first), second, out)
 }
 
 /// Whether both traces are marked.
-fn both_marked(order: u8, first: &[u8], second: &[u8]) -> bool {
-    is_marked(order, first) && is_marked(order, second)
+fn both_marked(settings: Settings, first: &[u8], second: &[u8]) -> bool {
+    is_marked(settings, first) && is_marked(settings, second)
 }
 
 /// Two marks at the end where both traces have one, and there is room for them.
-fn two_marks(order: u8, first: &[u8], second: &[u8], out: &mut [u8]) -> Length {
-    let right = (SECOND.join)(order, first, second, out);
+fn two_marks(settings: Settings, first: &[u8], second: &[u8], out: &mut [u8]) -> Length {
+    let right = (SECOND.join)(settings, first, second, out);
     instead(right, || {
         let length = right.length + END_MARK.len();
-        let room = out.get_mut(right.length..length).filter(|_| both_marked(order, first, second))?;
+        let room = out.get_mut(right.length..length).filter(|_| both_marked(settings, first, second))?;
         room.copy_from_slice(END_MARK);
         Some(Length { length, ..right })
     })
 }
 
 /// The mark behind the frames of the first trace.
-fn mark_between(order: u8, first: &[u8], second: &[u8], out: &mut [u8]) -> Length {
-    let right = (SECOND.join)(order, first, second, out);
-    if right.refusal == 0 && is_marked(order, &out[..right.length]) {
-        let border = unmarked(order, first).len();
+fn mark_between(settings: Settings, first: &[u8], second: &[u8], out: &mut [u8]) -> Length {
+    let right = (SECOND.join)(settings, first, second, out);
+    if right.refusal == 0 && is_marked(settings, &out[..right.length]) {
+        let border = unmarked(settings, first).len();
         out[border..right.length].rotate_right(END_MARK.len());
     }
     right
 }
 
 /// No room where the mark of each trace would not fit.
-fn mark_twice(order: u8, first: &[u8], second: &[u8], out: &mut [u8]) -> Length {
+fn mark_twice(settings: Settings, first: &[u8], second: &[u8], out: &mut [u8]) -> Length {
     let room = out.len();
-    let right = (SECOND.join)(order, first, second, &mut out.to_vec());
-    if both_marked(order, first, second) && right.length + END_MARK.len() > room {
+    let right = (SECOND.join)(settings, first, second, &mut out.to_vec());
+    if both_marked(settings, first, second) && right.length + END_MARK.len() > room {
         return Length::refused(right.refusal.max(Refusal::NoRoom as u8));
     }
-    (SECOND.join)(order, first, second, out)
+    (SECOND.join)(settings, first, second, out)
 }
 
-fn join_before_mark(order: u8, first: &[u8], second: &[u8], out: &mut [u8]) -> Length {
-    (SECOND.join)(order, unmarked(order, first), unmarked(order, second), out);
-    (SECOND.join)(order, first, second, out)
+fn join_before_mark(settings: Settings, first: &[u8], second: &[u8], out: &mut [u8]) -> Length {
+    (SECOND.join)(settings, unmarked(settings, first), unmarked(settings, second), out);
+    (SECOND.join)(settings, first, second, out)
 }
 
 /// The join without the mark where only the mark takes it past the limit.
-fn mark_past_limit(order: u8, first: &[u8], second: &[u8], out: &mut [u8]) -> Length {
-    let right = (SECOND.join)(order, first, second, out);
+fn mark_past_limit(settings: Settings, first: &[u8], second: &[u8], out: &mut [u8]) -> Length {
+    let right = (SECOND.join)(settings, first, second, out);
     if right.refusal != Refusal::TooLong as u8 {
         return right;
     }
-    (SECOND.join)(order, unmarked(order, first), unmarked(order, second), out)
+    (SECOND.join)(settings, unmarked(settings, first), unmarked(settings, second), out)
 }
 
-fn pair_without_mark(order: u8, first: &[u8], second: &[u8], n: usize) -> PairPart {
-    (SECOND.pair_place)(order, unmarked(order, first), unmarked(order, second), n)
+fn pair_without_mark(settings: Settings, first: &[u8], second: &[u8], n: usize) -> PairPart {
+    (SECOND.pair_place)(settings, unmarked(settings, first), unmarked(settings, second), n)
 }
 
 /// Too long where two traces are so with the mark of each.
-fn pair_mark_twice(order: u8, first: &[u8], second: &[u8], n: usize) -> PairPart {
-    let opening = Trace::read(order, second).map_or(0, |trace| trace.opening().len());
-    if both_marked(order, first, second) && first.len() + second.len() - opening > MAX_LENGTH {
+fn pair_mark_twice(settings: Settings, first: &[u8], second: &[u8], n: usize) -> PairPart {
+    let opening = read(settings, second).map_or(0, |trace| trace.opening().len());
+    if both_marked(settings, first, second) && first.len() + second.len() - opening > MAX_LENGTH {
         return PairPart::refused(Refusal::TooLong as u8);
     }
-    (SECOND.pair_place)(order, first, second, n)
+    (SECOND.pair_place)(settings, first, second, n)
 }
 
 /// What a file's CPU ranges are judged by.

@@ -102,7 +102,7 @@ fn a_join_has_one_end_mark() {
             assert_eq!(join(order, &first, &second, &mut out[1..]), Err(Refusal::NoRoom));
             assert_eq!(join(order, &first, &second, &mut out), Ok(expected.len()));
             assert_eq!(out, expected);
-            let pair = Pair { order, first: &first, second: &second };
+            let pair = Pair::new(order, &first, &second);
             assert_eq!((pair.frame(2).unwrap().side, pair.frame(3)), (Side::Second, Err(Refusal::NotFound)));
         }
     }
@@ -132,7 +132,7 @@ fn a_join_longer_than_the_limit() {
     // One byte is left, so that the mark is too much; with a frame less there is room for one mark, and not for two.
     let (first, second) = (marked(&first, true), with_frames(5));
     assert_eq!(join_to_vec(order, &first, &second), Err(Refusal::TooLong));
-    assert_eq!(Pair { order, first: &first, second: &second }.frame(0), Err(Refusal::TooLong));
+    assert_eq!(Pair::new(order, &first, &second).frame(0), Err(Refusal::TooLong));
     assert_eq!(join_to_vec(order, &first, &marked(&with_frames(4), true)).unwrap().len(), LONGEST - 3);
 }
 
@@ -142,7 +142,7 @@ fn a_pair_reads_as_its_join() {
         let (first, second) = (numbered(order, &[1, 2]), numbered(order, &[3, 4, 5]));
         let joined = join_to_vec(order, &first, &second).unwrap();
         let trace = Trace::open(order, &joined).unwrap();
-        let pair = Pair { order, first: &first, second: &second };
+        let pair = Pair::new(order, &first, &second);
         for frame in trace.frames() {
             let found = pair.frame(frame.number()).unwrap();
             let (side, file) = if frame.number() < 2 { (Side::First, &first) } else { (Side::Second, &second) };

@@ -7,28 +7,53 @@ const REQUESTS: &str = include_str!("../../../../docs/papers/02-change-requests.
 /// The requests that have landed and add a refusal, each in a line of its own that says `Refusals: number, sentence, …`.
 const LANDED: [&str; 1] = ["**C-11."];
 
+/// The rows that C-18 widens: number, the request's words, and behind which words of the row it puts which.
+const WIDENED: [(u8, &str, &str, &str); 2] = [
+    (2, "2 also for another base", "byte order not 0 or 1", "; base not 10 or 16"),
+    (5, "5 for a bad digit in the chosen base", "breaks its form", " in the chosen base"),
+];
+
+/// What a request says of refusals.
+fn refusals(request: &str) -> &'static str {
+    let line = REQUESTS.lines().find(|line| line.starts_with(request)).expect(request);
+    line.split_once("Refusals: ").expect(request).1
+}
+
 /// What a request adds: number and sentence.
 fn added(request: &str) -> (u8, &'static str) {
-    let line = REQUESTS.lines().find(|line| line.starts_with(request)).expect(request);
-    let (_, refusals) = line.split_once("Refusals: ").expect(request);
+    let refusals = refusals(request);
     let (number, rest) = refusals.split_once(", ").expect(request);
     let (sentence, _) = rest.split_once(',').expect(request);
     (number.parse().expect(request), sentence)
 }
 
+/// A row as C-18 has it.
+fn widened((number, sentence): (u8, &str)) -> (u8, String) {
+    match WIDENED.iter().find(|row| row.0 == number) {
+        Some((_, _, words, more)) => (number, sentence.replacen(words, &format!("{words}{more}"), 1)),
+        None => (number, sentence.to_string()),
+    }
+}
+
 /// The rows of the table, and then those that are added: number and sentence.
-fn rows() -> Vec<(u8, &'static str)> {
+fn rows() -> Vec<(u8, String)> {
     let cells = |line: &'static str| -> Option<(u8, &'static str)> {
         let (number, sentence) = line.strip_prefix("| ")?.strip_suffix(" |")?.split_once(" | ")?;
         Some((number.parse().ok()?, sentence))
     };
-    PAPER.lines().filter_map(cells).chain(LANDED.map(added)).collect()
+    PAPER.lines().filter_map(cells).chain(LANDED.map(added)).map(widened).collect()
 }
 
 #[test]
 fn numbers_and_sentences_are_the_papers() {
-    let own: Vec<(u8, &str)> = Refusal::ALL.iter().map(|r| (r.number(), r.sentence())).collect();
+    let own: Vec<(u8, String)> = Refusal::ALL.iter().map(|r| (r.number(), r.sentence().to_string())).collect();
     assert_eq!(own, rows());
+}
+
+#[test]
+fn the_widened_rows_are_those_of_the_request() {
+    let said: Vec<&str> = WIDENED.iter().map(|row| row.1).collect();
+    assert_eq!(refusals("**C-18."), said.join("; ") + ".");
 }
 
 #[test]

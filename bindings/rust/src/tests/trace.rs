@@ -1,11 +1,12 @@
 //! Traces, their lines, frames and blocks.
 use super::bytes::{frame, marked, memory, opening, registers, stands_at, trace, variable, ORDERS};
-use crate::{raw, Block, Content, LineKind, Order, Refusal, Trace, LONGEST};
+use crate::{raw, Base, Block, Content, LineKind, Order, Refusal, Settings, Trace, LONGEST};
+use std::ops::Range;
 
 const BOARD: &[u8] = include_bytes!("../../../../samples/board.tf");
 
-fn refusal(order: Order, file: &[u8]) -> Option<Refusal> {
-    Trace::open(order, file).err()
+fn refusal(settings: impl Into<Settings>, file: &[u8]) -> Option<Refusal> {
+    Trace::open(settings, file).err()
 }
 
 #[test]
@@ -15,8 +16,9 @@ fn openings() {
         assert_eq!(refusal(order, b"\x7fTRACE1\n\n"), Some(Refusal::BadHead));
         assert_eq!(refusal(order, b"\x7fTRACE0\n"), Some(Refusal::NoEmptyLine));
         assert_eq!(refusal(order, b"\x7fTRACE0\n\n"), None);
-        assert_eq!(refusal(order, &opening("R 65535\n")), None);
-        assert_eq!(refusal(order, &opening("R 65536\n")), Some(Refusal::BadLine));
+        let decimal = Settings { order, base: Base::Ten };
+        assert_eq!(refusal(decimal, &opening("R 65535\n")), None);
+        assert_eq!(refusal(decimal, &opening("R 65536\n")), Some(Refusal::BadLine));
         assert_eq!(refusal(order, &opening("R8\n")), None);
         assert_eq!(refusal(order, &opening("status 1\nstatus 2\n")), Some(Refusal::BadLine));
     }
@@ -241,8 +243,8 @@ fn variables_are_signed_and_the_earliest_counts() {
 }
 
 /// The place of each block, asked in the file itself.
-fn places_in_file(order: Order, file: &[u8], n: usize) -> Vec<usize> {
-    (0..).map_while(|k| raw::block_record(order, file, n, k).ok()).map(|block| block.place).collect()
+fn places_in_file(settings: Settings, file: &[u8], n: usize) -> Vec<usize> {
+    (0..).map_while(|k| raw::block_record(settings, file, n, k).ok()).map(|block| block.place).collect()
 }
 
 #[test]
@@ -258,26 +260,30 @@ fn a_long_frame_is_read_block_by_block() {
         let trace = Trace::open(order, &file).unwrap();
         let got: Vec<usize> = trace.blocks(0).unwrap().map(|block| block.place).collect();
         assert_eq!(got.len(), blocks.len());
-        assert_eq!(got, places_in_file(order, &file, 0));
+        assert_eq!(got, places_in_file(order.into(), &file, 0));
     }
 }
 
 /// A frame's own questions ask the library in a small trace; in the file itself it gives the same answers.
-#[test]
-fn answers_are_those_of_the_whole_file() {
-    let order = Order::Little;
-    let trace = Trace::open(order, BOARD).unwrap();
-    let part = |found: raw::Place| &BOARD[found.place..found.place + found.length];
-    assert_eq!(trace.frame_count(), 6);
-    for n in 0..7 {
+pub fn answers_as_the_file(settings: Settings, file: &[u8], addresses: &[u64], variables: Range<u32>) {
+    let trace = Trace::open(settings, file).unwrap();
+    let part = |found: raw::Place| &file[found.place..found.place + found.length];
+    for n in 0..=trace.frame_count() {
         let places: Vec<usize> = trace.blocks(n).into_iter().flatten().map(|block| block.place).collect();
-        assert_eq!(places, places_in_file(order, BOARD, n));
-        assert_eq!(trace.registers(n), raw::registers_place(order, BOARD, n).map(part));
-        for address in [0, 1, 2, 0x7FEFB0, 0x7FEFD4, 0x7FF000, 0x7FF00F, 0x7FF010, u64::MAX] {
-            assert_eq!(trace.memory(n, address), raw::memory_place(order, BOARD, n, address).map(part));
+        assert_eq!(places, places_in_file(settings, file, n));
+        assert_eq!(trace.registers(n), raw::registers_place(settings, file, n).map(part));
+        for &address in addresses {
+            assert_eq!(trace.memory(n, address), raw::memory_place(settings, file, n, address).map(part));
         }
-        for number in 0..4 {
-            assert_eq!(trace.variable(n, number), raw::variable(order, BOARD, n, number).map(|v| v.value));
+        for number in variables.clone() {
+            assert_eq!(trace.variable(n, number), raw::variable(settings, file, n, number).map(|v| v.value));
         }
     }
+}
+
+#[test]
+fn answers_are_those_of_the_whole_file() {
+    assert_eq!(Trace::open(Order::Little, BOARD).unwrap().frame_count(), 6);
+    let addresses = [0, 1, 2, 0x7FEFB0, 0x7FEFD4, 0x7FF000, 0x7FF00F, 0x7FF010, u64::MAX];
+    answers_as_the_file(Order::Little.into(), BOARD, &addresses, 0..4);
 }

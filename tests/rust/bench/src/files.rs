@@ -89,7 +89,9 @@ pub fn trace(frames: Frames, marked: bool, big: bool, length: usize) -> Vec<u8> 
     frames.blocks(&mut data);
     let data = data.bytes;
     let mark = if marked { END_MARK } else { &[] };
-    let mut file = Writer::new(big, b"\x7fTRACE0\nR 776\nstatus 0;tstop::0\ntp T1:400580:E:0:0\n\n");
+    // The registers' size as debuggers write it, in base 16.
+    let opening = format!("\x7fTRACE0\nR {REGISTER_SIZE:x}\nstatus 0;tstop::0\ntp T1:400580:E:0:0\n\n");
+    let mut file = Writer::new(big, opening.as_bytes());
     for number in (1..=NUMBERS).cycle() {
         if file.bytes.len() + 6 + data.len() + mark.len() > length {
             break;

@@ -4,14 +4,15 @@ use crate::question::{Side, Told};
 use crate::table::Row;
 use crate::timing::{in_turn, Times};
 use std::hint::black_box;
-use tufakpeni_tests::c::{Range, Selection};
+use tufakpeni_tests::answers::read;
+use tufakpeni_tests::c::{Range, Selection, Settings};
 use tufakpeni_tests::reader::{fields, Record};
-use tufakpeni_tests::second::gdb::{Frame, Trace};
+use tufakpeni_tests::second::gdb::Frame;
 use tufakpeni_tests::second::Part;
 
 /// What the questions are asked about, and what they write to.
 struct Work {
-    order: u8,
+    settings: Settings,
     file: Vec<u8>,
     /// Two traces of half the length, to be joined.
     first: Vec<u8>,
@@ -29,13 +30,13 @@ impl Work {
     fn new(frames: Frames, marked: bool, big: bool) -> Work {
         let file = files::trace(frames, marked, big, LONGEST);
         let joined = files::trace(frames, marked, big, LONGEST / 2);
-        let order = u8::from(big);
-        let count = (Side::Plain.reader().frame_count)(order, &file).count;
+        let settings = (Side::Plain.reader().default_settings)(u8::from(big));
+        let count = (Side::Plain.reader().frame_count)(settings, &file).count;
         let frame = Frame { tracepoint: 1, data: Part { place: 1, length: 1 } };
         let mut out = vec![1; LONGEST];
-        let half = (Side::Plain.reader().cut)(order, &file, half_of_numbers(), &mut out).length;
+        let half = (Side::Plain.reader().cut)(settings, &file, half_of_numbers(), &mut out).length;
         Work {
-            order,
+            settings,
             file,
             second: joined.clone(),
             first: joined,
@@ -52,12 +53,12 @@ impl Work {
 }
 
 fn frame_count(side: Side, work: &mut Work) -> Told {
-    let answer = (side.reader().frame_count)(work.order, black_box(&work.file));
+    let answer = (side.reader().frame_count)(work.settings, black_box(&work.file));
     (answer.refusal, answer.count, 0)
 }
 
 fn end_mark(side: Side, work: &mut Work) -> Told {
-    let answer = (side.reader().end_mark)(work.order, black_box(&work.file));
+    let answer = (side.reader().end_mark)(work.settings, black_box(&work.file));
     (answer.refusal, answer.marked.into(), 0)
 }
 
@@ -66,10 +67,10 @@ fn frame_table(side: Side, work: &mut Work) -> Told {
     let file = black_box(&work.file[..]);
     match side {
         Side::Library => {
-            let answer = (side.reader().frame_table)(work.order, file, &mut work.records);
+            let answer = (side.reader().frame_table)(work.settings, file, &mut work.records);
             (answer.refusal, answer.count, 0)
         }
-        Side::Plain => match Trace::read(work.order, file).and_then(|trace| trace.frame_table(&mut work.frames)) {
+        Side::Plain => match read(work.settings, file).and_then(|trace| trace.frame_table(&mut work.frames)) {
             Ok(count) => (0, count, 0),
             Err(refusal) => (refusal as u8, 0, 0),
         },
@@ -77,12 +78,12 @@ fn frame_table(side: Side, work: &mut Work) -> Told {
 }
 
 fn last_frame(side: Side, work: &mut Work) -> Told {
-    let answer = (side.reader().frame_place)(work.order, black_box(&work.file), work.last());
+    let answer = (side.reader().frame_place)(work.settings, black_box(&work.file), work.last());
     (answer.refusal, answer.place, answer.length)
 }
 
 fn last_memory(side: Side, work: &mut Work) -> Told {
-    let answer = (side.reader().memory_place)(work.order, black_box(&work.file), work.last(), LAST_ADDRESS + 5);
+    let answer = (side.reader().memory_place)(work.settings, black_box(&work.file), work.last(), LAST_ADDRESS + 5);
     (answer.refusal, answer.place, answer.length)
 }
 
@@ -104,13 +105,13 @@ fn cut_that_just_fits(side: Side, work: &mut Work) -> Told {
 }
 
 fn cut_into(side: Side, work: &mut Work, room: usize) -> Told {
-    let answer = (side.reader().cut)(work.order, black_box(&work.file), half_of_numbers(), &mut work.out[..room]);
+    let answer = (side.reader().cut)(work.settings, black_box(&work.file), half_of_numbers(), &mut work.out[..room]);
     (answer.refusal, answer.length, 0)
 }
 
 fn join(side: Side, work: &mut Work) -> Told {
     let (first, second) = black_box((&work.first, &work.second));
-    let answer = (side.reader().join)(work.order, first, second, &mut work.out);
+    let answer = (side.reader().join)(work.settings, first, second, &mut work.out);
     (answer.refusal, answer.length, 0)
 }
 

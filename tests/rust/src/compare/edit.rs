@@ -1,12 +1,12 @@
 //! Cuts, joins and pairs.
 
-use super::lent::Output;
 use super::{ask, indices, Comparer, Difference, Met};
 use crate::answers::SECOND;
-use crate::c::{Length, Selection};
+use crate::c::{Length, Selection, Settings};
 use crate::make::{selection, Random};
 use crate::reader::Reader;
 use std::fmt::Arguments;
+use std::mem;
 
 /// A cut or join by a reader into an output.
 trait Edit: Fn(&Reader, &mut [u8]) -> Length {}
@@ -14,7 +14,7 @@ impl<F: Fn(&Reader, &mut [u8]) -> Length> Edit for F {}
 
 impl Comparer<'_> {
     /// Cuts by a right selection and by its opposite, and now and then by a wrong one.
-    pub(super) fn cuts(&mut self, random: &mut Random, order: u8, file: &[u8]) -> Result<(), Difference> {
+    pub(super) fn cuts(&mut self, random: &mut Random, settings: Settings, file: &[u8]) -> Result<(), Difference> {
         let right = selection::right(random);
         let opposite = self.opposite(right)?;
         let wrong = random.one_in(4).then(|| selection::wrong(random));
@@ -22,39 +22,41 @@ impl Comparer<'_> {
             self.opposite(wrong)?;
         }
         for selection in [right, opposite].into_iter().chain(wrong) {
-            let call = format_args!("cut({order}, {selection:?})");
-            self.in_rooms(call, file.len() + 3, |reader, out| (reader.cut)(order, file, selection, out))?;
+            let call = format_args!("cut({settings:?}, {selection:?})");
+            self.in_rooms(call, file.len() + 3, |reader, out| (reader.cut)(settings, file, selection, out))?;
         }
         Ok(())
     }
 
     /// Joins, and every question about the two traces as a pair.
-    pub fn pair(&mut self, random: &mut Random, order: u8, first: &[u8], second: &[u8]) -> Result<(), Difference> {
+    pub fn pair(
+        &mut self,
+        random: &mut Random,
+        settings: Settings,
+        first: &[u8],
+        second: &[u8],
+    ) -> Result<(), Difference> {
         let most = first.len() + second.len();
-        let call = format_args!("join({order})");
-        let joined = self.in_rooms(call, most, |reader, out| (reader.join)(order, first, second, out))?;
+        let call = format_args!("join({settings:?})");
+        let joined = self.in_rooms(call, most, |reader, out| (reader.join)(settings, first, second, out))?;
         if joined.refusal == 0 {
-            let [first, second] = [first, second].map(|file| (SECOND.end_mark)(order, file).marked == 1);
+            let [first, second] = [first, second].map(|file| (SECOND.end_mark)(settings, file).marked == 1);
             self.meet(Met::Join { first, second });
         }
-        let first_count = (SECOND.frame_count)(order, first).count;
-        let count = first_count + (SECOND.frame_count)(order, second).count;
+        let first_count = (SECOND.frame_count)(settings, first).count;
+        let count = first_count + (SECOND.frame_count)(settings, second).count;
         let border = first_count.saturating_sub(2)..first_count + 2;
         for n in border.chain(indices(count, 2)) {
-            ask!(self.pair_place([order] first second [n]))?;
+            ask!(self.pair_place([settings] first second [n]))?;
             let number = random.pick(&[0, 1, 1, 2, 3, 1 << 31, u32::MAX]);
-            ask!(self.pair_variable([order] first second [n, number]))?;
+            ask!(self.pair_variable([settings] first second [n, number]))?;
         }
         Ok(())
     }
 
     fn opposite(&mut self, selection: Selection) -> Result<Selection, Difference> {
         let (given, second) = ((self.reader.opposite)(selection), (SECOND.opposite)(selection));
-        self.calls += 1;
-        if given != second {
-            return Err(Difference::new(format_args!("opposite({selection:?})"), given, second));
-        }
-        Ok(second)
+        self.equal(format_args!("opposite({selection:?})"), given, second)
     }
 
     /// A result with room to spare, with room for it alone, and with a byte less; the answer is the first one's.
@@ -66,10 +68,13 @@ impl Comparer<'_> {
     }
 
     fn in_room(&mut self, call: Arguments, room: usize, edit: &impl Edit) -> Result<Length, Difference> {
-        let (mut given, mut second) = (Output::new(room), Output::new(room));
+        let [mut given, mut second] = mem::take(&mut self.outputs);
+        given.renew(room);
+        second.renew(room);
         let call = format_args!("{call} with room for {room}");
         let answer = self.same(call, edit(self.reader, given.lent()), edit(&SECOND, second.lent()))?;
         given.same(call, &second)?;
+        self.outputs = [given, second];
         Ok(answer)
     }
 }

@@ -1,79 +1,115 @@
 //! The questions about a GDB trace.
 
 use super::lent::Table;
-use super::{ask, indices, Comparer, Difference, Met};
+use super::{ask, indices, Based, Comparer, Difference, Met};
 use crate::answers::SECOND;
-use crate::c::Count;
-use crate::make::{MadeTrace, Random};
+use crate::c::{Count, Place, Settings, LINE_R};
+use crate::make::{settings, MadeTrace, Random};
+use crate::second::Refusal;
 use std::iter::successors;
 
+/// What the questions about a trace showed: the count of its frames, and the size of the first register block met.
+#[derive(Clone, Copy)]
+pub struct Shown {
+    count: Count,
+    registers: Option<usize>,
+}
+
 impl Comparer<'_> {
-    /// Every call about a made trace, in both byte orders and now and then in one that is none.
-    pub fn made_trace(&mut self, random: &mut Random, trace: &MadeTrace) -> Result<(), Difference> {
-        let file = trace.made.file();
-        for order in [0, 1] {
-            let count = self.trace(random, order, file)?;
-            if order == trace.order {
-                self.settled(trace.made.refusal, count.refusal)?;
-                self.pair(random, order, &trace.partner, file)?;
-            }
-            self.pair(random, order, file, &trace.partner)?;
-        }
-        if random.one_in(8) {
-            let order = random.pick(&[2, 3, 128, 255]);
-            self.trace(random, order, file)?;
-            self.pair(random, order, file, &trace.partner)?;
+    /// The settings of a caller that says nothing of the base, for every number as the byte order.
+    pub fn default_settings(&mut self) -> Result<(), Difference> {
+        for order in 0..=u8::MAX {
+            let (given, second) = ((self.reader.default_settings)(order), (SECOND.default_settings)(order));
+            self.equal(format_args!("default_settings({order})"), given, second)?;
         }
         Ok(())
     }
 
-    /// Every call about one trace.
-    pub fn trace(&mut self, random: &mut Random, order: u8, file: &[u8]) -> Result<Count, Difference> {
-        let count = self.questions(order, file)?;
-        self.cuts(random, order, file)?;
-        Ok(count)
+    /// Every call about a made trace: as it was made to be read, in the other base, in the other byte order, and now and
+    /// then with settings that are wrong.
+    pub fn made_trace(&mut self, random: &mut Random, trace: &MadeTrace) -> Result<(), Difference> {
+        let (file, partner, own) = (trace.made.file(), &trace.partner[..], trace.settings);
+        let shown = self.trace(random, own, file, partner)?;
+        self.settled(trace.made.refusal, shown.count.refusal)?;
+        self.pair(random, own, partner, file)?;
+        let other = self.trace(random, settings::other_base(own), file, partner)?;
+        self.meet_bases(shown, other);
+        let other_order = Settings { order: 1 - own.order, ..settings::right(random) };
+        self.trace(random, other_order, file, partner)?;
+        if random.one_in(6) {
+            let wrong = settings::wrong(random);
+            self.trace(random, wrong, file, partner)?;
+        }
+        Ok(())
     }
 
-    /// Every question about a trace, for all its lines, frames and blocks; the answer is the count of frames.
-    pub fn questions(&mut self, order: u8, file: &[u8]) -> Result<Count, Difference> {
-        let count = ask!(self.frame_count([order] file []))?;
-        let mark = ask!(self.end_mark([order] file []))?;
+    /// Every call about a trace, and about the pair of it and another.
+    pub fn trace(
+        &mut self,
+        random: &mut Random,
+        settings: Settings,
+        file: &[u8],
+        partner: &[u8],
+    ) -> Result<Shown, Difference> {
+        let shown = self.questions(settings, file)?;
+        self.cuts(random, settings, file)?;
+        self.pair(random, settings, file, partner)?;
+        Ok(shown)
+    }
+
+    /// Every question about a trace, for all its lines, frames and blocks.
+    fn questions(&mut self, settings: Settings, file: &[u8]) -> Result<Shown, Difference> {
+        let count = ask!(self.frame_count([settings] file []))?;
+        self.meet_refusal(settings, count.refusal);
+        let mark = ask!(self.end_mark([settings] file []))?;
         if mark.refusal == 0 {
             self.meet(Met::Marked(mark.marked == 1));
         }
         for room in [0, count.count.saturating_sub(1), count.count, count.count + 2] {
-            self.table(order, file, room)?;
+            self.table(settings, file, room)?;
         }
-        let mut j = 0;
-        while ask!(self.line_place([order] file [j]))?.refusal == 0 {
-            j += 1;
-        }
+        self.lines(settings, file)?;
+        let mut registers = None;
         for n in indices(count.count, self.most) {
-            self.frame(order, file, n)?;
+            let shown = self.frame(settings, file, n)?;
+            registers = registers.or((shown.refusal == 0).then_some(shown.length));
         }
-        ask!(self.line_place([order] file [usize::MAX]))?;
-        Ok(count)
+        Ok(Shown { count, registers })
     }
 
-    fn table(&mut self, order: u8, file: &[u8], room: usize) -> Result<(), Difference> {
+    fn lines(&mut self, settings: Settings, file: &[u8]) -> Result<(), Difference> {
+        for j in 0.. {
+            let line = ask!(self.line_place([settings] file [j]))?;
+            if line.refusal != 0 {
+                break;
+            }
+            if line.kind == LINE_R {
+                let digits = &file[line.place + b"R ".len()..line.place + line.length];
+                Based::of_digits(settings.base, digits).for_each(|based| self.meet(Met::Based(based)));
+            }
+        }
+        ask!(self.line_place([settings] file [usize::MAX])).map(drop)
+    }
+
+    fn table(&mut self, settings: Settings, file: &[u8], room: usize) -> Result<(), Difference> {
         let (mut given, mut second) = (Table::new(room), Table::new(room));
-        let call = format_args!("frame_table({order}, {room} records)");
+        let call = format_args!("frame_table({settings:?}, {room} records)");
         let answer = self.same(
             call,
-            (self.reader.frame_table)(order, file, given.lent()),
-            (SECOND.frame_table)(order, file, second.lent()),
+            (self.reader.frame_table)(settings, file, given.lent()),
+            (SECOND.frame_table)(settings, file, second.lent()),
         )?;
         given.same(call, &second, answer.count)
     }
 
-    /// Every question about frame n.
-    fn frame(&mut self, order: u8, file: &[u8], n: usize) -> Result<(), Difference> {
-        ask!(self.frame_place([order] file [n]))?;
-        ask!(self.registers_place([order] file [n]))?;
+    /// Every question about frame n; the answer is where its registers are.
+    fn frame(&mut self, settings: Settings, file: &[u8], n: usize) -> Result<Place, Difference> {
+        ask!(self.frame_place([settings] file [n]))?;
+        let registers = ask!(self.registers_place([settings] file [n]))?;
         let (mut addresses, mut numbers) = (vec![0, u64::MAX], vec![0, 1]);
         let further = successors(Some(self.most), |k| k.checked_mul(2));
         for k in (0..self.most).chain(further) {
-            let block = ask!(self.block_record([order] file [n, k]))?;
+            let block = ask!(self.block_record([settings] file [n, k]))?;
             match block.letter {
                 b'M' => addresses.extend(around(block.address, block.length as u64)),
                 b'V' => numbers.extend([block.number, block.number.wrapping_add(1)]),
@@ -81,14 +117,40 @@ impl Comparer<'_> {
                 _ => break,
             }
         }
-        ask!(self.block_record([order] file [n, usize::MAX]))?;
+        ask!(self.block_record([settings] file [n, usize::MAX]))?;
         for address in unlike(addresses) {
-            ask!(self.memory_place([order] file [n, address]))?;
+            ask!(self.memory_place([settings] file [n, address]))?;
         }
         for number in unlike(numbers) {
-            ask!(self.variable([order] file [n, number]))?;
+            ask!(self.variable([settings] file [n, number]))?;
         }
-        Ok(())
+        Ok(registers)
+    }
+
+    /// Refusals that go by the base.
+    fn meet_refusal(&mut self, settings: Settings, refusal: u8) {
+        const WRONG: u8 = Refusal::BadArgument as u8;
+        const BAD: u8 = Refusal::BadLine as u8;
+        match (refusal, settings) {
+            (WRONG, Settings { order: 0 | 1, .. }) => self.meet(Met::Based(Based::Wrong)),
+            (BAD, Settings { base: 10, .. }) => self.meet(Met::Based(Based::BadTen)),
+            (BAD, _) => self.meet(Met::Based(Based::BadSixteen)),
+            _ => {}
+        }
+    }
+
+    /// What a trace with register blocks shows in its own base and in the other.
+    fn meet_bases(&mut self, own: Shown, other: Shown) {
+        const AT_BLOCK: [u8; 2] = [Refusal::BadLetter as u8, Refusal::BlockPastData as u8];
+        if own.registers.is_none() {
+            return;
+        }
+        if AT_BLOCK.contains(&other.count.refusal) {
+            self.meet(Met::Based(Based::BlockRefused));
+        }
+        if other.registers.is_some() && other.registers != own.registers {
+            self.meet(Met::Based(Based::BlockUnlike));
+        }
     }
 }
 

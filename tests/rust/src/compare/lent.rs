@@ -6,15 +6,17 @@ use std::fmt::Display;
 
 const GUARD: usize = 16;
 
-/// A lent output of bytes.
+/// A lent output of bytes. One serves many calls, since fresh memory for the longest costs more than the call.
+#[derive(Default)]
 pub struct Output {
     bytes: Vec<u8>,
 }
 
 impl Output {
-    pub fn new(length: usize) -> Self {
-        let bytes = (0..length + 2 * GUARD).map(|place| (place as u8).wrapping_mul(37) ^ 0xA5).collect();
-        Output { bytes }
+    /// The pattern in this length, whatever it was before.
+    pub fn renew(&mut self, length: usize) {
+        self.bytes.clear();
+        self.bytes.extend((0..length + 2 * GUARD).map(|place| (place as u8).wrapping_mul(37) ^ 0xA5));
     }
 
     pub fn lent(&mut self) -> &mut [u8] {

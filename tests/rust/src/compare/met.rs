@@ -13,11 +13,73 @@ pub enum Met {
         first: bool,
         second: bool,
     },
+    Based(Based),
+}
+
+/// What a trace shows of the base in which it is read.
+#[derive(Clone, Copy, Debug, PartialEq, Eq)]
+pub enum Based {
+    /// 2, and the byte order is right.
+    Wrong,
+    /// 5 in base 10, and in base 16.
+    BadTen,
+    BadSixteen,
+    /// Accepted in base 10, or in base 16, with decimal digits that spell another number in the other base.
+    UnlikeTen,
+    UnlikeSixteen,
+    /// Accepted in base 16 with letters: of lower case, of upper case, of both.
+    Lower,
+    Upper,
+    Mixed,
+    /// As many digits as base 10, or base 16, takes.
+    FullTen,
+    FullSixteen,
+    /// Accepted with a register block, and in the other base refused at a block.
+    BlockRefused,
+    /// Accepted in both bases with register blocks of unlike sizes.
+    BlockUnlike,
+}
+
+impl Based {
+    pub const ALL: [Based; 12] = [
+        Based::Wrong,
+        Based::BadTen,
+        Based::BadSixteen,
+        Based::UnlikeTen,
+        Based::UnlikeSixteen,
+        Based::Lower,
+        Based::Upper,
+        Based::Mixed,
+        Based::FullTen,
+        Based::FullSixteen,
+        Based::BlockRefused,
+        Based::BlockUnlike,
+    ];
+
+    /// What the digits of an accepted R line show.
+    pub fn of_digits(base: u8, digits: &[u8]) -> impl Iterator<Item = Based> {
+        let (ten, sixteen) = (base == 10, base == 16);
+        let lower = digits.iter().any(u8::is_ascii_lowercase);
+        let upper = digits.iter().any(u8::is_ascii_uppercase);
+        // What stands before the last digit counts ten times or sixteen times.
+        let before_last = digits.iter().rev().skip(1).any(|&digit| digit != b'0');
+        let unlike = before_last && !lower && !upper;
+        let shown = [
+            (Based::UnlikeTen, ten && unlike),
+            (Based::UnlikeSixteen, sixteen && unlike),
+            (Based::Lower, lower && !upper),
+            (Based::Upper, upper && !lower),
+            (Based::Mixed, lower && upper),
+            (Based::FullTen, ten && digits.len() == 5),
+            (Based::FullSixteen, sixteen && digits.len() == 4),
+        ];
+        shown.into_iter().filter(|&(_, so)| so).map(|(based, _)| based)
+    }
 }
 
 impl Met {
     /// How many there are.
-    pub const COUNT: usize = Refusal::LAST as usize + 6;
+    pub const COUNT: usize = Refusal::LAST as usize + 6 + Based::ALL.len();
 
     /// A number of its own below the count.
     pub fn index(self) -> usize {
@@ -26,12 +88,13 @@ impl Met {
             Met::Refusal(number) => usize::from(number) - 1,
             Met::Marked(marked) => last + usize::from(marked),
             Met::Join { first, second } => last + 2 + 2 * usize::from(first) + usize::from(second),
+            Met::Based(based) => last + 6 + based as usize,
         }
     }
 
     pub fn all() -> impl Iterator<Item = Met> {
         let refusals = (1..=Refusal::LAST).map(Met::Refusal);
-        refusals.chain([false, true].map(Met::Marked)).chain(Met::joins())
+        refusals.chain([false, true].map(Met::Marked)).chain(Met::joins()).chain(Based::ALL.map(Met::Based))
     }
 
     /// Joins of all four markings.

@@ -6,10 +6,11 @@ mod gdb;
 mod lent;
 mod met;
 
-pub use met::Met;
+pub use met::{Based, Met};
 
 use crate::answers::Answer;
 use crate::reader::Reader;
+use lent::Output;
 use std::fmt::{Debug, Display};
 
 /// A call for which the readers answer differently.
@@ -31,9 +32,10 @@ pub struct Comparer<'r> {
     reader: &'r Reader,
     /// How many frames, and blocks of a frame, are asked for one by one.
     most: usize,
+    outputs: [Output; 2],
     pub calls: usize,
     /// A bit for each that was met.
-    met: u32,
+    met: u64,
 }
 
 /// Compares one call; the first list of arguments stands before the lent files, the second after them.
@@ -51,7 +53,7 @@ use ask;
 impl<'r> Comparer<'r> {
     /// For made files: all frames and blocks but of the few that are large.
     pub fn new(reader: &'r Reader) -> Self {
-        Comparer { reader, most: 12, calls: 0, met: 0 }
+        Comparer { reader, most: 12, outputs: Default::default(), calls: 0, met: 0 }
     }
 
     /// For every frame and every block, however many.
@@ -71,10 +73,15 @@ impl<'r> Comparer<'r> {
 
     /// Counts a call, and tells the answer where both give the same.
     fn same<A: Answer>(&mut self, call: impl Display, given: A, second: A) -> Result<A, Difference> {
-        self.calls += 1;
         if second.refusal() != 0 {
             self.meet(Met::Refusal(second.refusal()));
         }
+        self.equal(call, given, second)
+    }
+
+    /// The same of a call that refuses nothing.
+    fn equal<T: PartialEq + Debug>(&mut self, call: impl Display, given: T, second: T) -> Result<T, Difference> {
+        self.calls += 1;
         if given != second {
             return Err(Difference::new(call, given, second));
         }

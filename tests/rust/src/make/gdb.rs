@@ -1,6 +1,7 @@
 //! Valid GDB traces, kept as lines, frames and blocks until they are written out.
 
 use super::{put, Random};
+use crate::c::Settings;
 
 pub const HEAD: &[u8] = b"\x7fTRACE0\n";
 pub const END_MARK: &[u8] = &[0; 4];
@@ -25,9 +26,9 @@ impl Frame {
 }
 
 /// A trace; `register_size` is its R line's number, and `marked` says whether the end mark stands behind the frames.
-#[derive(Clone, Default)]
+#[derive(Clone)]
 pub struct Trace {
-    pub order: u8,
+    pub settings: Settings,
     pub lines: Vec<Vec<u8>>,
     pub register_size: Option<usize>,
     pub frames: Vec<Frame>,
@@ -35,33 +36,51 @@ pub struct Trace {
 }
 
 impl Trace {
-    /// A trace of every sort, R line or none, marked or not.
-    pub fn valid(random: &mut Random, order: u8) -> Self {
-        let size = random.pick(&[0, 1, 2, 3, 4, 7, 8, 16, 40, 264]);
-        let size = if random.one_in(500) { random.pick(&[776, 65_535]) } else { size };
-        let has_line = !random.one_in(4);
-        Trace::with(random, order, has_line.then_some(size))
+    /// A trace without lines, frames and mark.
+    pub fn bare(settings: Settings) -> Self {
+        Trace { settings, lines: Vec::new(), register_size: None, frames: Vec::new(), marked: false }
     }
 
-    pub fn with(random: &mut Random, order: u8, register_size: Option<usize>) -> Self {
-        let lines = description(random, register_size);
-        let frames = frames(random, order, register_size);
-        Trace { order, lines, register_size, frames, marked: random.one_in(2) }
+    /// A trace of every sort, R line or none, marked or not.
+    pub fn valid(random: &mut Random, settings: Settings) -> Self {
+        let size = random.pick(&[0, 1, 2, 3, 8, 10, 12, 16, 29, 40, 171, 206, 264]);
+        let size = if random.one_in(500) { random.pick(&[776, 65_535]) } else { size };
+        let has_line = !random.one_in(4);
+        Trace::with(random, settings, has_line.then_some(size))
+    }
+
+    pub fn with(random: &mut Random, settings: Settings, register_size: Option<usize>) -> Self {
+        let lines = description(random, settings.base, register_size);
+        let frames = frames(random, settings.order, register_size);
+        Trace { settings, lines, register_size, frames, marked: random.one_in(2) }
     }
 
     /// A trace with at least one frame.
-    pub fn with_frames(random: &mut Random, order: u8, register_size: Option<usize>) -> Self {
-        let mut trace = Trace::with(random, order, register_size);
+    pub fn with_frames(random: &mut Random, settings: Settings, register_size: Option<usize>) -> Self {
+        let mut trace = Trace::with(random, settings, register_size);
         if trace.frames.is_empty() {
-            trace.frames.push(frame(random, order, register_size));
+            trace.frames.push(frame(random, settings.order, register_size));
         }
         trace
     }
 
     /// The same opening with other frames, marked or not.
     pub fn sibling(&self, random: &mut Random) -> Self {
-        let frames = frames(random, self.order, self.register_size);
+        let frames = frames(random, self.settings.order, self.register_size);
         Trace { frames, marked: random.one_in(2), ..self.clone() }
+    }
+
+    /// Spells the R line's number otherwise: its letters in the other case, or else with a zero more or less before it.
+    pub fn respell(&mut self) {
+        let Some(line) = self.lines.iter_mut().find(|line| line.starts_with(b"R ")) else { return };
+        let digits = &mut line[2..];
+        if digits.iter().any(u8::is_ascii_alphabetic) {
+            digits.iter_mut().filter(|digit| digit.is_ascii_alphabetic()).for_each(|digit| *digit ^= b'a' ^ b'A');
+        } else if digits.len() > 1 && digits[0] == b'0' {
+            line.remove(2);
+        } else {
+            line.insert(2, b'0');
+        }
     }
 
     /// Head and lines, without the closing empty line.
@@ -84,8 +103,8 @@ impl Trace {
         let mut bytes = self.opening();
         for frame in &self.frames {
             let data = frame.data();
-            put(&mut bytes, self.order, 2, frame.tracepoint.into());
-            put(&mut bytes, self.order, 4, frame.size.map_or(data.len() as u64, u64::from));
+            put(&mut bytes, self.settings.order, 2, frame.tracepoint.into());
+            put(&mut bytes, self.settings.order, 4, frame.size.map_or(data.len() as u64, u64::from));
             bytes.extend_from_slice(&data);
         }
         bytes.extend_from_slice(self.mark());
@@ -102,7 +121,7 @@ impl Trace {
     }
 }
 
-fn description(random: &mut Random, register_size: Option<usize>) -> Vec<Vec<u8>> {
+fn description(random: &mut Random, base: u8, register_size: Option<usize>) -> Vec<Vec<u8>> {
     let mut lines: Vec<_> = (0..random.below(5)).map(|_| line(random)).collect();
     if random.one_in(2) {
         let place = random.below(lines.len() + 1);
@@ -110,15 +129,23 @@ fn description(random: &mut Random, register_size: Option<usize>) -> Vec<Vec<u8>
     }
     if let Some(size) = register_size {
         let place = random.below(lines.len() + 1);
-        lines.insert(place, register_line(random, size));
+        lines.insert(place, register_line(random, base, size));
     }
     lines
 }
 
-/// An R line, with leading zeros where there is room for them.
-fn register_line(random: &mut Random, size: usize) -> Vec<u8> {
-    let width = random.pick(&[1, 1, 1, 4, 5]);
-    format!("R {size:0width$}").into_bytes()
+/// An R line, with leading zeros where there is room for them, and letters of either case or of both.
+pub fn register_line(random: &mut Random, base: u8, size: usize) -> Vec<u8> {
+    if base == 10 {
+        let width = random.pick(&[1, 1, 1, 4, 5]);
+        return format!("R {size:0width$}").into_bytes();
+    }
+    let width = random.pick(&[1, 1, 1, 3, 4]);
+    let mut digits = format!("{size:0width$x}").into_bytes();
+    // Every letter, none, or every other one from the first or from the second place on.
+    let (first, step) = random.pick(&[(0, 1), (digits.len(), 1), (0, 2), (1, 2)]);
+    digits.iter_mut().skip(first).step_by(step).for_each(|digit| digit.make_ascii_uppercase());
+    [b"R ", &digits[..]].concat()
 }
 
 /// A line that may stand any number of times.

@@ -1,16 +1,16 @@
 //! GDB traces at both sides of each edge of the rules, each with the refusal that its making settles.
 
-use super::gdb::{block, memory, memory_at, registers, text, variable, Frame, Trace, END_MARK, HEAD};
+use super::gdb::{block, memory, memory_at, register_line, registers, text, variable, Frame, Trace, END_MARK, HEAD};
 use super::{Made, Random};
+use crate::c::Settings;
 use crate::second::Refusal;
 
-/// A maker of traces at one edge, in a byte order.
-type Edge = fn(&mut Random, u8) -> Made;
+/// A maker of traces at one edge, to be read with these settings.
+pub(super) type Edge = fn(&mut Random, Settings) -> Made;
 
-pub const EDGES: [Edge; 19] = [
+pub const EDGES: [Edge; 18] = [
     head,
     no_empty_line,
-    register_line,
     repeated_line,
     unended_line,
     tail,
@@ -29,36 +29,36 @@ pub const EDGES: [Edge; 19] = [
     largest_blocks,
 ];
 
-const ACCEPTED: Option<u8> = Some(0);
+pub(super) const ACCEPTED: Option<u8> = Some(0);
 
 fn refused(refusal: Refusal) -> Option<u8> {
     Some(refusal as u8)
 }
 
 /// The refusal where the fault is there, else acceptance.
-fn refused_if(fault: bool, refusal: Refusal) -> Option<u8> {
+pub(super) fn refused_if(fault: bool, refusal: Refusal) -> Option<u8> {
     Some(if fault { refusal as u8 } else { 0 })
 }
 
 fn any_size(random: &mut Random) -> Option<usize> {
-    random.pick(&[None, Some(0), Some(1), Some(2), Some(8), Some(40)])
+    random.pick(&[None, Some(0), Some(1), Some(2), Some(8), Some(12), Some(40)])
 }
 
-fn any_trace(random: &mut Random, order: u8) -> Trace {
+fn any_trace(random: &mut Random, settings: Settings) -> Trace {
     let size = any_size(random);
-    Trace::with(random, order, size)
+    Trace::with(random, settings, size)
 }
 
 /// A trace with a frame in it, and the number of one of its frames.
-fn any_frame(random: &mut Random, order: u8, size: Option<usize>) -> (Trace, usize) {
-    let trace = Trace::with_frames(random, order, size);
+pub(super) fn any_frame(random: &mut Random, settings: Settings, size: Option<usize>) -> (Trace, usize) {
+    let trace = Trace::with_frames(random, settings, size);
     let n = random.below(trace.frames.len());
     (trace, n)
 }
 
 /// A head with a wrong byte, or cut short: also right after it.
-fn head(random: &mut Random, order: u8) -> Made {
-    let mut bytes = any_trace(random, order).bytes();
+fn head(random: &mut Random, settings: Settings) -> Made {
+    let mut bytes = any_trace(random, settings).bytes();
     let place = random.below(HEAD.len() + 1);
     if random.one_in(2) {
         let whole = place == HEAD.len();
@@ -71,57 +71,22 @@ fn head(random: &mut Random, order: u8) -> Made {
 }
 
 /// A description that never ends, also where a carriage return stands for the empty line.
-fn no_empty_line(random: &mut Random, order: u8) -> Made {
-    let mut bytes = any_trace(random, order).unclosed();
+fn no_empty_line(random: &mut Random, settings: Settings) -> Made {
+    let mut bytes = any_trace(random, settings).unclosed();
     let end: &[u8] = random.pick(&[b"", b"\r", b"\r\n", b" \n", b"tp", b"\0\n", b"\n"]);
     bytes.extend_from_slice(end);
     Made::new("no empty line", bytes, refused_if(end != b"\n", Refusal::NoEmptyLine))
 }
 
-/// Every form of an R line, good and bad.
-fn register_line(random: &mut Random, order: u8) -> Made {
-    const GOOD: [&[u8]; 8] = [b"R 65535", b"R 0", b"R 00000", b"R 00776", b"R 9", b"R 10000", b"R 59999", b"R 65529"];
-    const BAD: [&[u8]; 22] = [
-        b"R 65536",
-        b"R 65540",
-        b"R 66000",
-        b"R 70000",
-        b"R 99999",
-        b"R 000776",
-        b"R 000000",
-        b"R 123456",
-        b"R ",
-        b"R  1",
-        b"R 1 ",
-        b"R x",
-        b"R 1\r",
-        b"R -1",
-        b"R +1",
-        b"R 0x10",
-        b"R 9c4",
-        b"R 1/",
-        b"R 1:",
-        b"R \0",
-        b"R 1\0",
-        b"R 100000000000000000000000000",
-    ];
-    let bad = random.one_in(2);
-    let line = if bad { random.pick(&BAD) } else { random.pick(&GOOD) };
-    let mut trace = Trace::with(random, order, None);
-    let place = random.below(trace.lines.len() + 1);
-    trace.lines.insert(place, line.to_vec());
-    Made::new("R line", trace.bytes(), refused_if(bad, Refusal::BadLine))
-}
-
 /// A second line of a kind that stands once, or one that only looks like it.
-fn repeated_line(random: &mut Random, order: u8) -> Made {
+fn repeated_line(random: &mut Random, settings: Settings) -> Made {
     let status = text(random);
-    let mut trace = Trace::with(random, order, Some(2));
+    let mut trace = Trace::with(random, settings, Some(2));
     trace.lines.retain(|line| !line.starts_with(b"status "));
     trace.lines.push([b"status ", &status[..]].concat());
     let bad = random.one_in(2);
     let line: &[u8] = if bad {
-        random.pick(&[b"R 2", b"R 3", b"R 02", b"status ", b"status x"])
+        random.pick(&[b"R 2", b"R 3", b"R 02", b"R a", b"status ", b"status x"])
     } else {
         random.pick(&[b"R2", b"R\t2", b"R", b"status", b"status\t", b"Status x", b"tp ", b"tsv ", b"tdesc ", b"r 2"])
     };
@@ -131,8 +96,8 @@ fn repeated_line(random: &mut Random, order: u8) -> Made {
 }
 
 /// What is not ended is no line, so it cannot be a bad or a second one.
-fn unended_line(random: &mut Random, order: u8) -> Made {
-    let mut bytes = Trace::with(random, order, Some(1)).unclosed();
+fn unended_line(random: &mut Random, settings: Settings) -> Made {
+    let mut bytes = Trace::with(random, settings, Some(1)).unclosed();
     let line: &[u8] = random.pick(&[b"R 2", b"R x", b"R ", b"status 1", b"R 99999"]);
     bytes.extend_from_slice(line);
     Made::new("unended line", bytes, refused(Refusal::NoEmptyLine))
@@ -140,20 +105,20 @@ fn unended_line(random: &mut Random, order: u8) -> Made {
 
 /// The bytes of an unmarked trace. Its end is as often as not one that a mark is easily taken for or lost behind: the
 /// bare opening, an empty frame, or data that end in zeros.
-fn unmarked(random: &mut Random, order: u8) -> Vec<u8> {
-    let mut trace = Trace { marked: false, ..any_trace(random, order) };
+fn unmarked(random: &mut Random, settings: Settings) -> Vec<u8> {
+    let mut trace = Trace { marked: false, ..any_trace(random, settings) };
     match random.below(6) {
         0 => trace.frames.clear(),
         1 => trace.frames.push(Frame { tracepoint: random.pick(&[1, 256]), ..Frame::of(Vec::new()) }),
-        2 => trace.frames.push(Frame::of(vec![memory_at(order, 0, &vec![0; random.below(9)])])),
+        2 => trace.frames.push(Frame::of(vec![memory_at(settings.order, 0, &vec![0; random.below(9)])])),
         _ => {}
     }
     trace.bytes()
 }
 
 /// 1 to 5 bytes after the last frame, which do not begin with two zeros; 6 are a frame of size 0 where they say so.
-fn tail(random: &mut Random, order: u8) -> Made {
-    let mut bytes = unmarked(random, order);
+fn tail(random: &mut Random, settings: Settings) -> Made {
+    let mut bytes = unmarked(random, settings);
     let length = random.below(7);
     let mut tail = if length == 6 || random.one_in(2) { vec![0; length] } else { random.bytes(length) };
     if tail.starts_with(&[0, 0]) {
@@ -164,16 +129,16 @@ fn tail(random: &mut Random, order: u8) -> Made {
 }
 
 /// The end mark behind every sort of end, or none.
-fn end_mark(random: &mut Random, order: u8) -> Made {
-    let mut bytes = unmarked(random, order);
+fn end_mark(random: &mut Random, settings: Settings) -> Made {
+    let mut bytes = unmarked(random, settings);
     let mark: &[u8] = random.pick(&[b"", END_MARK, END_MARK]);
     bytes.extend_from_slice(mark);
     Made::new("end mark", bytes, ACCEPTED)
 }
 
 /// Two zeros and not the end mark: cut short, with another byte in it, or with bytes behind it.
-fn bad_mark(random: &mut Random, order: u8) -> Made {
-    let mut bytes = unmarked(random, order);
+fn bad_mark(random: &mut Random, settings: Settings) -> Made {
+    let mut bytes = unmarked(random, settings);
     let length = random.pick(&[2, 3, 4, 5, 5, 6, 7, 8, 10, 16]);
     let mut mark = vec![0; length];
     match random.below(3) {
@@ -189,9 +154,9 @@ fn bad_mark(random: &mut Random, order: u8) -> Made {
 }
 
 /// A frame of number 0 among the others, sound in itself or with any fault: its size past the file, or a bad block.
-fn number_zero(random: &mut Random, order: u8) -> Made {
+fn number_zero(random: &mut Random, settings: Settings) -> Made {
     let size = any_size(random);
-    let (mut trace, n) = any_frame(random, order, size);
+    let (mut trace, n) = any_frame(random, settings, size);
     let frame = &mut trace.frames[n];
     frame.tracepoint = 0;
     match random.below(4) {
@@ -205,9 +170,9 @@ fn number_zero(random: &mut Random, order: u8) -> Made {
 
 /// A last frame whose size is right, or past the file by one or by far more; bad blocks in it do not matter then. Nor
 /// does an end mark, which is data by that size.
-fn size_past_file(random: &mut Random, order: u8) -> Made {
+fn size_past_file(random: &mut Random, settings: Settings) -> Made {
     let size = any_size(random);
-    let (mut trace, _) = any_frame(random, order, size);
+    let (mut trace, _) = any_frame(random, settings, size);
     let mark = trace.mark().len();
     let last = trace.frames.last_mut().expect("a frame");
     let past = !random.one_in(3);
@@ -222,9 +187,9 @@ fn size_past_file(random: &mut Random, order: u8) -> Made {
 }
 
 /// A letter that is none, in any frame and between any blocks.
-fn bad_letter(random: &mut Random, order: u8) -> Made {
+fn bad_letter(random: &mut Random, settings: Settings) -> Made {
     let size = any_size(random);
-    let (mut trace, n) = any_frame(random, order, size);
+    let (mut trace, n) = any_frame(random, settings, size);
     let letter = random.pick(&[0, 0xFF, b'S', b'm', b'r', b'v', b'L', b'N', b'Q', b'T', b'U', b'W', b'\n', b' ']);
     let length = random.below(4);
     let blocks = &mut trace.frames[n].blocks;
@@ -234,8 +199,8 @@ fn bad_letter(random: &mut Random, order: u8) -> Made {
 }
 
 /// Puts a block, whole or cut short, at the end of any frame.
-fn cut_block(random: &mut Random, order: u8, size: Option<usize>, mut block: Vec<u8>) -> Made {
-    let (mut trace, n) = any_frame(random, order, size);
+fn cut_block(random: &mut Random, settings: Settings, size: Option<usize>, mut block: Vec<u8>) -> Made {
+    let (mut trace, n) = any_frame(random, settings, size);
     let whole = block.len();
     block.truncate(if random.one_in(3) { whole } else { 1 + random.below(whole) });
     let short = block.len() < whole;
@@ -243,29 +208,29 @@ fn cut_block(random: &mut Random, order: u8, size: Option<usize>, mut block: Vec
     Made::new("short block", trace.bytes(), refused_if(short, Refusal::BlockPastData))
 }
 
-fn short_memory(random: &mut Random, order: u8) -> Made {
+fn short_memory(random: &mut Random, settings: Settings) -> Made {
     let size = any_size(random);
-    let block = memory(random, order);
-    cut_block(random, order, size, block)
+    let block = memory(random, settings.order);
+    cut_block(random, settings, size, block)
 }
 
-fn short_variable(random: &mut Random, order: u8) -> Made {
+fn short_variable(random: &mut Random, settings: Settings) -> Made {
     let size = any_size(random);
-    let block = variable(random, order);
-    cut_block(random, order, size, block)
+    let block = variable(random, settings.order);
+    cut_block(random, settings, size, block)
 }
 
-fn short_registers(random: &mut Random, order: u8) -> Made {
+fn short_registers(random: &mut Random, settings: Settings) -> Made {
     let size = random.pick(&[0, 1, 2, 3, 16, 255, 256, 257]);
     let block = registers(random, size);
-    cut_block(random, order, Some(size), block)
+    cut_block(random, settings, Some(size), block)
 }
 
 /// A register block where no R line was given, also as the last byte of its frame, and where lines only look like one.
-fn no_register_size(random: &mut Random, order: u8) -> Made {
+fn no_register_size(random: &mut Random, settings: Settings) -> Made {
     let has_line = random.one_in(3);
     let size = random.below(4);
-    let (mut trace, n) = any_frame(random, order, has_line.then_some(size));
+    let (mut trace, n) = any_frame(random, settings, has_line.then_some(size));
     if random.one_in(2) {
         trace.lines.push(format!("R{size}").into_bytes());
     }
@@ -275,16 +240,16 @@ fn no_register_size(random: &mut Random, order: u8) -> Made {
 }
 
 /// Two faults in two frames: the one that stands first decides, though the other is of a lower number or a bad mark.
-fn fault_in_the_earlier_frame(random: &mut Random, order: u8) -> Made {
-    let mut trace = Trace::with(random, order, None);
-    let memory = memory_at(order, 1, b"ab");
+fn fault_in_the_earlier_frame(random: &mut Random, settings: Settings) -> Made {
+    let mut trace = Trace::with(random, settings, None);
+    let memory = memory_at(settings.order, 1, b"ab");
     let faults: [(Vec<u8>, Refusal); 3] = [
         (vec![b'x'], Refusal::BadLetter),
         (memory[..12].to_vec(), Refusal::BlockPastData),
         (vec![b'R'], Refusal::NoRegisterSize),
     ];
     let (fault, refusal) = &faults[random.below(3)];
-    let first = block(random, order, None);
+    let first = block(random, settings.order, None);
     trace.frames.push(Frame::of(vec![first, fault.clone()]));
     let (fault, _) = &faults[random.below(3)];
     let size = random.pick(&[None, Some(u32::MAX)]);
@@ -293,8 +258,8 @@ fn fault_in_the_earlier_frame(random: &mut Random, order: u8) -> Made {
 }
 
 /// A bad line is met before the description's missing end.
-fn bad_line_before_no_end(random: &mut Random, order: u8) -> Made {
-    let mut trace = any_trace(random, order);
+fn bad_line_before_no_end(random: &mut Random, settings: Settings) -> Made {
+    let mut trace = any_trace(random, settings);
     trace.lines.push(b"R x".to_vec());
     let mut bytes = trace.unclosed();
     bytes.extend_from_slice(&text(random));
@@ -302,16 +267,16 @@ fn bad_line_before_no_end(random: &mut Random, order: u8) -> Made {
 }
 
 /// Blocks of one address or number several times, and memory that runs on at address 0.
-fn several_blocks_of_a_kind(random: &mut Random, order: u8) -> Made {
-    let mut trace = Trace::with_frames(random, order, Some(3));
+fn several_blocks_of_a_kind(random: &mut Random, settings: Settings) -> Made {
+    let mut trace = Trace::with_frames(random, settings, Some(3));
     for frame in &mut trace.frames {
         let address = random.pick(&[u64::MAX, u64::MAX - 1, 0, 100]);
         for _ in 0..3 {
             let length = random.below(5);
             let bytes = random.bytes(length);
-            frame.blocks.push(memory_at(order, address.wrapping_sub(random.below(3) as u64), &bytes));
+            frame.blocks.push(memory_at(settings.order, address.wrapping_sub(random.below(3) as u64), &bytes));
             frame.blocks.push(registers(random, 3));
-            frame.blocks.push(variable(random, order));
+            frame.blocks.push(variable(random, settings.order));
         }
         random.shuffle(&mut frame.blocks);
     }
@@ -319,13 +284,13 @@ fn several_blocks_of_a_kind(random: &mut Random, order: u8) -> Made {
 }
 
 /// The largest register and memory blocks; mostly left out, for their size.
-fn largest_blocks(random: &mut Random, order: u8) -> Made {
+fn largest_blocks(random: &mut Random, settings: Settings) -> Made {
     if !random.one_in(50) {
-        return several_blocks_of_a_kind(random, order);
+        return several_blocks_of_a_kind(random, settings);
     }
-    let mut trace = Trace { order, lines: vec![b"R 65535".to_vec()], ..Trace::default() };
-    let memory = memory_at(order, random.number(), &[b'R'; 65_535]);
-    let mut blocks = vec![registers(random, 65_535), memory, variable(random, order)];
+    let mut trace = Trace { lines: vec![register_line(random, settings.base, 65_535)], ..Trace::bare(settings) };
+    let memory = memory_at(settings.order, random.number(), &[b'R'; 65_535]);
+    let mut blocks = vec![registers(random, 65_535), memory, variable(random, settings.order)];
     random.shuffle(&mut blocks);
     let short = random.one_in(2);
     if short {

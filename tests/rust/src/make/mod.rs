@@ -8,9 +8,12 @@ pub mod gdb_edges;
 pub mod longest;
 mod random;
 pub mod selection;
+pub mod settings;
+pub mod size_edges;
 
 pub use random::Random;
 
+use crate::c::Settings;
 use dat::Dat;
 use gdb::Trace;
 
@@ -40,32 +43,33 @@ impl Made {
     }
 }
 
-/// A made GDB trace with its byte order, and another to be joined with it.
+/// A made GDB trace with the settings that it was made for, and another to be joined with it.
 #[derive(Clone)]
 pub struct MadeTrace {
     pub made: Made,
-    pub order: u8,
+    pub settings: Settings,
     pub partner: Vec<u8>,
 }
 
-/// A trace of any sort, in any byte order.
+/// A trace of any sort, in any byte order and base.
 pub fn any_trace(random: &mut Random) -> MadeTrace {
-    let order = random.below(2) as u8;
-    let trace = Trace::valid(random, order);
+    let settings = settings::right(random);
+    let trace = Trace::valid(random, settings);
     let made = match random.below(10) {
         0..=2 => Made::new("valid", trace.bytes(), Some(0)),
         3 => damage::shortened(random, trace.bytes()),
         4 | 5 => damage::damaged(random, trace.bytes()),
-        _ => random.pick(&gdb_edges::EDGES)(random, order),
+        6 => random.pick(&size_edges::EDGES)(random, settings),
+        _ => random.pick(&gdb_edges::EDGES)(random, settings),
     };
     let partner = partner(random, &trace, &made);
-    MadeTrace { made, order, partner }
+    MadeTrace { made, settings, partner }
 }
 
 /// A file to be joined with a made one: of the same opening, of one that differs a little, or of any sort.
 fn partner(random: &mut Random, trace: &Trace, made: &Made) -> Vec<u8> {
     let mut sibling = trace.sibling(random);
-    match random.below(8) {
+    match random.below(9) {
         0..=2 => sibling.bytes(),
         3 => {
             sibling.frames.clear();
@@ -73,7 +77,14 @@ fn partner(random: &mut Random, trace: &Trace, made: &Made) -> Vec<u8> {
         }
         4 => made.file().to_vec(),
         5 => damage::damaged(random, made.file().to_vec()).bytes,
-        6 => Trace::valid(random, trace.order).bytes(),
+        6 => {
+            let settings = Settings { order: trace.settings.order, ..settings::right(random) };
+            Trace::valid(random, settings).bytes()
+        }
+        7 => {
+            sibling.respell();
+            sibling.bytes()
+        }
         _ => {
             sibling.lines.push(b"tp 1".to_vec());
             sibling.bytes()

@@ -1,7 +1,7 @@
 //! Cutting and joining GDB traces, and two traces read as if joined.
 
 use super::gdb::{Frame, Trace};
-use super::{Part, Refusal, MAX_LENGTH};
+use super::{Part, Refusal, Settings, MAX_LENGTH};
 
 /// Tracepoint numbers from `low` to `high`, both among them.
 #[derive(Clone, Copy, Debug, Default, PartialEq, Eq)]
@@ -49,9 +49,9 @@ impl Checked<'_> {
 }
 
 /// The opening, every selected frame and the end mark, if any; the answer is their length.
-pub fn cut(order: u8, file: &[u8], selection: &Selection, out: &mut [u8]) -> Result<usize, Refusal> {
+pub fn cut(settings: Settings, file: &[u8], selection: &Selection, out: &mut [u8]) -> Result<usize, Refusal> {
     let selection = selection.check()?;
-    let trace = Trace::read(order, file)?;
+    let trace = Trace::read(settings, file)?;
     let selected = || trace.frames().filter(|frame| selection.selects(frame.tracepoint)).map(Frame::whole);
     let selected_length = selected().map(|part| part.length).sum::<usize>();
     let length = trace.opening().len() + selected_length + trace.mark().len();
@@ -73,8 +73,8 @@ fn append<'o>(out: &'o mut [u8], bytes: &[u8]) -> &'o mut [u8] {
 
 /// The common opening, the first trace's frames, the second's, then the end mark if either has it; the answer is their
 /// length.
-pub fn join(order: u8, first: &[u8], second: &[u8], out: &mut [u8]) -> Result<usize, Refusal> {
-    let pair = Pair::read(order, first, second)?;
+pub fn join(settings: Settings, first: &[u8], second: &[u8], out: &mut [u8]) -> Result<usize, Refusal> {
+    let pair = Pair::read(settings, first, second)?;
     let length = pair.length();
     let mut out = out.get_mut(..length).ok_or(Refusal::NoRoom)?;
     for piece in pair.pieces() {
@@ -98,8 +98,8 @@ pub enum Which {
 }
 
 impl<'a> Pair<'a> {
-    pub fn read(order: u8, first: &'a [u8], second: &'a [u8]) -> Result<Self, Refusal> {
-        let pair = Pair { first: Trace::read(order, first)?, second: Trace::read(order, second)? };
+    pub fn read(settings: Settings, first: &'a [u8], second: &'a [u8]) -> Result<Self, Refusal> {
+        let pair = Pair { first: Trace::read(settings, first)?, second: Trace::read(settings, second)? };
         if pair.first.opening() != pair.second.opening() {
             return Err(Refusal::OpeningsDiffer);
         }

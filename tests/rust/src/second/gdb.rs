@@ -1,6 +1,6 @@
 //! GDB trace files: the check of a whole file, and every question about a checked one.
 
-use super::{Order, Part, Refusal, MAX_LENGTH};
+use super::{Base, Order, Part, Refusal, Settings, MAX_LENGTH};
 use std::mem;
 
 const HEAD: &[u8; 8] = b"\x7fTRACE0\n";
@@ -79,7 +79,7 @@ struct Opening {
 }
 
 impl Opening {
-    fn read(file: &[u8]) -> Result<Self, Refusal> {
+    fn read(base: Base, file: &[u8]) -> Result<Self, Refusal> {
         if !file.starts_with(HEAD) {
             return Err(Refusal::BadHead);
         }
@@ -95,7 +95,7 @@ impl Opening {
                 return Ok(Opening { length: place, register_size });
             }
             let repeated = match LineKind::of(line) {
-                LineKind::R => register_size.replace(block_size(line)?).is_some(),
+                LineKind::R => register_size.replace(base.number(&line[2..]).ok_or(Refusal::BadLine)?).is_some(),
                 LineKind::Status => mem::replace(&mut has_status, true),
                 _ => false,
             };
@@ -104,16 +104,6 @@ impl Opening {
             }
         }
     }
-}
-
-/// The number of an R line: one to five decimal digits after `R `.
-fn block_size(line: &[u8]) -> Result<u16, Refusal> {
-    let digits = &line[2..];
-    if !(1..=5).contains(&digits.len()) || !digits.iter().all(u8::is_ascii_digit) {
-        return Err(Refusal::BadLine);
-    }
-    let value = digits.iter().fold(0, |value: u32, digit| 10 * value + u32::from(digit - b'0'));
-    u16::try_from(value).map_err(|_| Refusal::BadLine)
 }
 
 /// A trace that follows the layout.
@@ -129,12 +119,12 @@ pub struct Trace<'a> {
 
 impl<'a> Trace<'a> {
     /// Checks the whole file; the first fault met decides.
-    pub fn read(order: u8, file: &'a [u8]) -> Result<Self, Refusal> {
-        let order = Order::from_flag(order).ok_or(Refusal::BadArgument)?;
+    pub fn read(settings: Settings, file: &'a [u8]) -> Result<Self, Refusal> {
+        let (order, base) = settings.check()?;
         if file.len() > MAX_LENGTH {
             return Err(Refusal::TooLong);
         }
-        let opening = Opening::read(file)?;
+        let opening = Opening::read(base, file)?;
         let mut trace = Trace { file, order, opening, frame_count: 0, frames_end: opening.length };
         (trace.frame_count, trace.frames_end) = trace.check_frames()?;
         Ok(trace)

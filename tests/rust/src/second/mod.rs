@@ -6,9 +6,11 @@ pub mod edit;
 pub mod gdb;
 mod order;
 mod refusal;
+mod settings;
 
 pub use order::Order;
 pub use refusal::Refusal;
+pub use settings::{Base, Settings};
 
 /// The longest file that is read, and the longest result of a join.
 pub const MAX_LENGTH: usize = 67_108_864;
