@@ -21,7 +21,7 @@ extern "C" {
 #endif
 
 /* The number of this interface. It changes with every struct, call and number of this header. */
-#define TFK_INTERFACE 3
+#define TFK_INTERFACE 4
 
 /* The number of the library's interface. */
 uint64_t tfk_interface(void);
@@ -29,7 +29,7 @@ uint64_t tfk_interface(void);
 /* Whether the library is one of this header. */
 #define TFK_FITS() (tfk_interface() == TFK_INTERFACE)
 
-/* The refusals. */
+/* The refusals: 1 to 18, and 24. */
 enum {
     TFK_TOO_LONG = 1,            /* a file, or a join's result, is longer than 67,108,864 bytes */
     TFK_BAD_ARGUMENT = 2,        /* byte order not 0 or 1; base not 10 or 16; a range with low above high; more than 8 ranges */
@@ -48,7 +48,8 @@ enum {
     TFK_BAD_CONSTANT = 15,       /* a trace.dat fixed string, flag, long size or page size is wrong */
     TFK_BAD_RANGE = 16,          /* CPU count above 1,024; a CPU range misaligned, before the header's end or past the file */
     TFK_RANGES_OVERLAP = 17,     /* two CPU ranges overlap */
-    TFK_BAD_MARK = 18            /* a bad end mark: two bytes of 0 where a frame head should start, and not exactly four of 0 from there to the file's end */
+    TFK_BAD_MARK = 18,           /* a bad end mark: two bytes of 0 where a frame head should start, and not exactly four of 0 from there to the file's end */
+    TFK_SECOND_REGISTERS = 24    /* a second `R` block in a frame */
 };
 
 /* ---- GDB traces ---- */
@@ -109,7 +110,8 @@ typedef struct {
     size_t size;
 } tfk_frame;
 
-/* A block: its letter ('R', 'M' or 'V'), and the place of that letter. Memory has address and length, a variable number and value; what a kind does not have is 0. */
+/* A block: its letter ('R', 'M' or 'V'), and the place of that letter. Memory has address and length, a variable number and value; what a
+ * kind does not have is 0. Of a frame's blocks at most one is an R block. */
 typedef struct {
     uint8_t refusal;
     uint8_t letter;
@@ -144,7 +146,7 @@ tfk_place tfk_frame_place(tfk_settings settings, const uint8_t *file, size_t fil
 /* Block k of frame n. */
 tfk_block tfk_block_record(tfk_settings settings, const uint8_t *file, size_t file_length, size_t n, size_t k);
 
-/* The bytes of frame n's earliest R block, without the letter. */
+/* The bytes of frame n's earliest R block, which is its only one, without the letter. */
 tfk_place tfk_registers_place(tfk_settings settings, const uint8_t *file, size_t file_length, size_t n);
 
 /* Memory at an address in frame n: from there to the end of the earliest block that covers it. */

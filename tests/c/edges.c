@@ -12,6 +12,7 @@ int main(void)
     bases();
     tables();
     marks();
+    registers();
     limits();
     dats();
     return report();

@@ -7,6 +7,7 @@ void answers(void);   /* what the small traces answer */
 void bases(void);     /* which bases there are, and what an R line says in each */
 void tables(void);    /* the frame table into records that hold a pattern */
 void marks(void);     /* cuts, joins and pairs of traces with the end mark and without */
+void registers(void); /* frames with a second register block, and their neighbours */
 void limits(void);    /* the longest file and one byte more */
 void dats(void);      /* trace.dat headers */
 

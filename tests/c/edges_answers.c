@@ -89,7 +89,7 @@ static void blocks_of_every_kind(tfk_settings settings)
     asked trace = opened(EVERY_BLOCK, settings);
     tfk_frame records[2];
     CHECK(is_count(tfk_frame_table(ASKED(trace), records, 2), 0, 2));
-    CHECK(is_frame(records[0], 65535, 19, 40) && is_frame(records[1], 7, 65, 8));
+    CHECK(is_frame(records[0], 65535, 19, 40) && is_frame(records[1], 7, 65, 17));
     CHECK(is_variable(tfk_block_record(ASKED(trace), 0, 0), 19, UINT32_MAX, INT64_MIN));
     CHECK(is_memory(tfk_block_record(ASKED(trace), 0, 1), 32, 0x4D, 0));
     CHECK(is_registers(tfk_block_record(ASKED(trace), 0, 2), 43));
@@ -99,7 +99,9 @@ static void blocks_of_every_kind(tfk_settings settings)
     CHECK(is_place(tfk_memory_place(ASKED(trace), 0, 0x4D), 0, 58, 1));
     CHECK(is_value(tfk_variable(ASKED(trace), 0, UINT32_MAX), 0, INT64_MIN));
     CHECK(is_place(tfk_registers_place(ASKED(trace), 1), 0, 66, 3));
-    CHECK(is_registers(tfk_block_record(ASKED(trace), 1, 1), 69));
+    CHECK(is_registers(tfk_block_record(ASKED(trace), 1, 0), 65));
+    CHECK(is_variable(tfk_block_record(ASKED(trace), 1, 1), 69, 2, -3));
+    CHECK(is_value(tfk_variable(ASKED(trace), 1, 2), 0, -3));
     closed(trace);
 }
 
@@ -107,7 +109,18 @@ static void registers_of_no_size(tfk_settings settings)
 {
     asked trace = opened(NO_REGISTER_BYTES, settings);
     CHECK(is_place(tfk_registers_place(ASKED(trace), 0), 0, 20, 0));
-    CHECK(is_registers(tfk_block_record(ASKED(trace), 0, 1), 20));
+    CHECK(is_registers(tfk_block_record(ASKED(trace), 0, 0), 19));
+    CHECK(is_memory(tfk_block_record(ASKED(trace), 0, 1), 20, 0x0101010101010101, 0));
+    closed(trace);
+}
+
+/* Their place is then the file's length. */
+static void registers_of_no_size_last(tfk_settings settings)
+{
+    asked trace = opened(NO_REGISTER_BYTES_LAST, settings);
+    CHECK(is_memory(tfk_block_record(ASKED(trace), 0, 0), 19, 0x0101010101010101, 0));
+    CHECK(is_registers(tfk_block_record(ASKED(trace), 0, 1), 30));
+    CHECK(is_place(tfk_registers_place(ASKED(trace), 0), 0, trace.length, 0));
     closed(trace);
 }
 
@@ -167,6 +180,7 @@ static void answers_in(tfk_settings settings)
     lines_and_a_cut(settings);
     blocks_of_every_kind(settings);
     registers_of_no_size(settings);
+    registers_of_no_size_last(settings);
     before_the_mark(settings);
     lines_before_the_mark(settings);
     different_openings(settings);

@@ -31,6 +31,7 @@ typedef struct {
 #define SHORT_DATA BARE "\1\0\0\0\0\0" "\1\0\1\0\0\1"
 #define SHORT_MARK BARE "\1\0\0\0\0\0" "\0\0\0"
 #define END_MARK "\0\0\0\0"
+#define TWO_BLOCKS "R\252\273R\252\273"
 #define THREE_SIZES HEAD "R 2\n\n" "\1\0\3\0\0\0" "RMM" "\2\0\15\0\0\0" "V\1\0\0\0\377\377\377\377\377\377\377\377" "\1\0\0\0\0\0"
 
 static const table_case CASES[] = {
@@ -60,6 +61,10 @@ static const table_case CASES[] = {
     {"a frame, then data past the file, big", 1, FILE_OF(SHORT_DATA), TFK_DATA_PAST_FILE, 0, {{0}}},
     {"a frame, then 3 bytes of 0, little", 0, FILE_OF(SHORT_MARK), TFK_BAD_MARK, 0, {{0}}},
     {"a frame, then 3 bytes of 0, big", 1, FILE_OF(SHORT_MARK), TFK_BAD_MARK, 0, {{0}}},
+    {"a frame, then one of two register blocks, little", 0,
+     FILE_OF(HEAD "R 2\n\n" "\1\0\0\0\0\0" "\1\0\6\0\0\0" TWO_BLOCKS), TFK_SECOND_REGISTERS, 0, {{0}}},
+    {"a frame, then one of two register blocks, big", 1,
+     FILE_OF(HEAD "R 2\n\n" "\0\1\0\0\0\0" "\0\1\0\0\0\6" TWO_BLOCKS), TFK_SECOND_REGISTERS, 0, {{0}}},
 };
 
 /* Record k before. */

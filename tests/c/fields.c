@@ -34,13 +34,13 @@ static void answered(void)
     begin("the answers of a trace");
     CHECK(is_count(tfk_frame_count(ASKED(trace)), 0, 2));
     CHECK(is_mark(tfk_end_mark(ASKED(marked)), 0, 1));
-    CHECK(is_count(tfk_frame_table(ASKED(trace), records, 2), 0, 2) && is_frame(records[1], 7, 65, 8));
+    CHECK(is_count(tfk_frame_table(ASKED(trace), records, 2), 0, 2) && is_frame(records[1], 7, 65, 17));
     CHECK(is_line(tfk_line_place(ASKED(trace), 0), 0, TFK_LINE_R, 8, 3));
     CHECK(is_place(tfk_registers_place(ASKED(trace), 1), 0, 66, 3));
     CHECK(is_memory(tfk_block_record(ASKED(trace), 0, 3), 47, 0x4D, 1));
     CHECK(is_variable(tfk_block_record(ASKED(trace), 0, 0), 19, UINT32_MAX, INT64_MIN));
     CHECK(is_value(tfk_variable(ASKED(trace), 0, UINT32_MAX), 0, INT64_MIN));
-    CHECK(is_part(tfk_pair_place(ASKED(trace), trace.file.bytes, trace.file.length, 3), 0, 1, 65, 8));
+    CHECK(is_part(tfk_pair_place(ASKED(trace), trace.file.bytes, trace.file.length, 3), 0, 1, 65, 17));
     end();
 }
 

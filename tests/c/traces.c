@@ -78,7 +78,10 @@ static const struct {
     uint8_t refusal;
 } ONE_FRAME[] = {
     {"two registers", "R 2\n", 3, "R\xaa\xbb", 0},
-    {"registers of size 0", "R 0\n", 2, "RR", 0},
+    {"registers of size 0, then memory", "R 0\n", 12, "RM\1\1\1\1\1\1\1\1\0\0", 0},
+    {"memory, then registers of size 0", "R 0\n", 12, "M\1\1\1\1\1\1\1\1\0\0R", 0},
+    {"two register letters of size 0", "R 0\n", 2, "RR", TFK_SECOND_REGISTERS},
+    {"two register blocks", "R 2\n", 6, "R\xaa\xbbR\xcc\xdd", TFK_SECOND_REGISTERS},
     {"registers without a size", "R8\n", 1, "R", TFK_NO_REGISTER_SIZE},
     {"a bad letter", "", 1, "\0", TFK_BAD_LETTER},
     {"registers past the data", "R 2\n", 2, "R\xaa", TFK_BLOCK_PAST_DATA},
@@ -178,8 +181,9 @@ static void every_block(small_trace *trace)
     PUT(&trace->file, "RMRV");
     memory(trace, 0x4D, 1);
     PUT(&trace->file, "R");
-    frame(trace, 7, 8, 1);
-    PUT(&trace->file, "RabcRdef");
+    frame(trace, 7, 17, 1);
+    PUT(&trace->file, "Rabc");
+    variable(trace, 2, -3);
 }
 
 static void mark_alone(small_trace *trace)

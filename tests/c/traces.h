@@ -33,7 +33,8 @@ enum {
     MARK_AFTER_256,
     MARK_AFTER_ZEROS,
     TWO_REGISTERS,
-    NO_REGISTER_BYTES
+    NO_REGISTER_BYTES,
+    NO_REGISTER_BYTES_LAST
 };
 
 /* How many there are, and trace i in this byte order. */

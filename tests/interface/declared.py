@@ -1,4 +1,4 @@
-"""Structs and calls as Rust and Rattle declare them, in the header's words."""
+"""Structs, calls and refusals as Rust and Rattle declare them, in the header's words."""
 import re
 
 from header import ROOT
@@ -6,6 +6,8 @@ from header import ROOT
 STRUCT = re.compile(r'#\[repr\(C\)\]\s*(?:#\[[^\]]*\]\s*)*(?:pub )?struct (\w+) \{([^}]*)\}')
 CALL = re.compile(r'\bfn (tfk_\w+)\(([^)]*)\) -> (\w+)')
 MEMBER = re.compile(r'(?:pub )?(\w+): ([^,;]+(?:; \d+\])?),?')
+CONSTANT = re.compile(r'^pub const (\w+): u8 = (\d+);$', re.M)
+VARIANT = re.compile(r'^    (\w+) = (\d+),$', re.M)
 NUMBERS = {
     'u8': 'uint8_t', 'u16': 'uint16_t', 'u32': 'uint32_t', 'u64': 'uint64_t', 'i64': 'int64_t', 'usize': 'size_t',
 }
@@ -21,8 +23,12 @@ def c_type(kind):
     pointer = re.fullmatch(r'\*(const|mut) (\w+)', kind)
     if pointer:
         return f'{"const " if pointer[1] == "const" else ""}{c_type(pointer[2])} *'
-    words = re.findall('[A-Z][a-z]+', NAMES.get(kind, kind))
-    return NUMBERS.get(kind) or '_'.join(['tfk', *map(str.lower, words)])
+    return NUMBERS.get(kind) or f'tfk_{words(NAMES.get(kind, kind)).lower()}'
+
+
+def words(name):
+    """A name of Rust's with an underscore between its words."""
+    return '_'.join(re.findall('[A-Z][a-z]+', name))
 
 
 def parameters(text):
@@ -51,3 +57,10 @@ def declared(*sources):
                     for name, fields in STRUCT.findall(text)])
     calls = once([(name, (c_type(answer), list(parameters(given)))) for name, given, answer in CALL.findall(text)])
     return structs, calls
+
+
+def refusals(source):
+    """The refusals that a file declares, as constants or as the cases of an enum: each one's name in the header and its number."""
+    text = (ROOT / source).read_text()
+    variants = [(words(name).upper(), number) for name, number in VARIANT.findall(text)]
+    return once([(f'TFK_{name}', int(number)) for name, number in CONSTANT.findall(text) + variants])

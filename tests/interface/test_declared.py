@@ -1,13 +1,14 @@
-"""The library's own source and both declarations of it in Rust have the header's structs and calls, field by field."""
+"""The library's own source and both declarations of it in Rust have the header's structs and calls, field by field, and its refusals."""
 import unittest
 
 import header
-from declared import CALL, declared
+from declared import CALL, declared, refusals
 
 # Every struct that C can see and every exported call is somewhere in the crates.
 LIBRARY = sorted(header.ROOT.glob('crates/*/src/**/*.rt'))
 WRAPPER = 'bindings/rust/src/raw.rs'
 TESTS = 'tests/rust/src/c.rs'
+REFUSALS = ['crates/refusals/src/lib.rt', 'bindings/rust/src/refusal.rs', 'tests/rust/src/second/refusal.rs']
 
 
 class Declared(unittest.TestCase):
@@ -35,6 +36,14 @@ class Declared(unittest.TestCase):
         self.assertEqual(declaring, [header.ROOT / WRAPPER])
         outside, _ = declaring[0].read_text().split('\ncalls! {\n')
         self.assertEqual([name for name, *_ in CALL.findall(outside)], ['tfk_interface'])
+
+    def test_the_refusals(self):
+        """What the header numbers besides is of other kinds."""
+        expected = {name: number for name, number in self.header.values.items()
+                    if not name.startswith(('TFK_LINE_', 'TFK_ENDING_'))}
+        for source in REFUSALS:
+            with self.subTest(source):
+                self.assertEqual(refusals(source), expected)
 
 
 if __name__ == '__main__':

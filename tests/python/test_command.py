@@ -86,13 +86,21 @@ class Command(Case):
                 'base 16 was tried for the R line; to try the other: --base 10\n', 1))
 
     def test_the_base_in_refusals(self):
-        """It is named where it may be the reason: 5, 8 and 9, of a trace with an R line."""
+        """It is named where it may be the reason: 5, 8, 9 and 24, if the other base gives the R line another size."""
         tried = 'base {} was tried for the R line; to try the other: --base {}'
         for lines, data, words, number, base in (
                 (['R 9c4'], b'', ['--base', '10'], 5, tried.format(10, 16)),
                 (['R 65535'], b'', [], 5, tried.format(16, 10)),
                 (['R 308'], LITTLE.registers(bytes(776)), ['--base', '10'], 8, tried.format(10, 16)),
                 (['R 20'], LITTLE.registers(bytes(20)), [], 9, tried.format(16, 10)),
+                (['R 10'], LITTLE.registers(bytes(16)) * 2, [], 24, tried.format(16, 10)),
+                (['R 0002'], LITTLE.registers(bytes(2)) * 2, [], 24, None),
+                (['R 2'], LITTLE.registers(bytes(2)) * 2, ['--base', '10'], 24, None),
+                (['R a'], LITTLE.registers(bytes(10)) * 2, [], 24, None),
+                (['R a'], b'x', [], 8, None),
+                (['R a'], LITTLE.registers(b''), [], 9, None),
+                (['R x'], b'', [], 5, None),
+                (['R 10', 'R 10'], b'', [], 5, None),
                 (['status a', 'status b'], b'', [], 5, None),
                 (['tp R x'], b'X', [], 8, None),
                 (['tp R x'], b'M', [], 9, None),
@@ -101,6 +109,18 @@ class Command(Case):
             reason, *more = ended.stderr.splitlines()
             self.assertTrue(reason.startswith(f'refused {number}: '), reason)
             self.assertEqual((more, ended.stdout, ended.returncode), ([base] if base else [], '', 1))
+
+    def test_a_second_block_by_the_wrong_base(self):
+        """A sound file is refused with 24 where a byte `R` stands behind what the wrong base takes for its registers."""
+        letters = LITTLE.registers(b'R' * 776)
+        behind = LITTLE.registers(bytes(20)) + LITTLE.memory(1, b'RRRR')
+        for line, data, base, wrong in (('R 308', letters, '16', '10'), ('R 20', behind, '10', '16')):
+            file = self.made(LITTLE.trace([line], LITTLE.frame(1, data)))
+            self.assertEqual(command(file, '--base', base).returncode, 0)
+            ended = command(file, '--base', wrong)
+            self.assertEqual((ended.stdout, ended.stderr, ended.returncode), (
+                '', 'refused 24: a second `R` block in a frame\n'
+                    f'base {wrong} was tried for the R line; to try the other: --base {base}\n', 1))
 
     def test_no_such_base(self):
         for base in ('8', '0', '266', '-6', 'ten', ''):
@@ -125,6 +145,7 @@ class Command(Case):
                 ([self.made(b'')], 'refused 3: the head differs or is cut short'),
                 ([self.made(bytes(LIMIT + 2))], "refused 1: a file, or a join's result, is longer than 67,108,864 bytes"),
                 ([self.made(BARE + MARK + b'\0')], 'refused 18: a bad end mark'),
+                ([str(ROOT / 'tests/real/gdb/raw.tf')], 'refused 24: a second `R` block in a frame'),
                 ([self.made(b'\x17\x08\x44')], 'refused 14: a trace.dat field or named piece runs past the file'),
                 ([board, '--dat'], 'refused 15: a trace.dat fixed string, flag, long size or page size is wrong'),
                 ([board, '--order', 'big'], "refused 7: a frame's data runs past the file")):

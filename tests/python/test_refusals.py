@@ -33,6 +33,8 @@ class Table(Case):
         requests = (ROOT / 'docs/papers/02-change-requests.md').read_text()
         rows = re.findall(r'^\| (\d+) \| (.*) \|$', scope, re.M)
         rows += re.findall(r'^\*\*C-11\..* Refusals: (\d+), ([^,]+),', requests, re.M)
+        second = re.findall(r'^\*\*C-20\. Two register blocks in one frame\..* Refusals: (\d+), ([^,]+),', requests, re.M)
+        rows += [(number, f'{words} in a frame') for number, words in second]
         more, = re.findall(r'^\*\*C-18\..* Refusals: (.*)\.$', requests, re.M)
         self.assertEqual(more, '; '.join(words for words, _, _ in self.MORE.values()))
         table = {int(number): reason for number, reason in rows}
@@ -74,6 +76,7 @@ class Files(Case):
         (18, BARE + bytes.fromhex('00 00 01 00')), (18, BARE + bytes.fromhex('00 00 00 01')),
         (18, LITTLE.trace([], LITTLE.frame(0))), (18, LITTLE.trace([], FRAME, LITTLE.frame(0, LITTLE.variable(1, 2)))),
         (18, BARE + bytes.fromhex('00 00 ff ff ff ff')), (18, LITTLE.trace([], FRAME) + bytes(3)),
+        (24, LITTLE.trace(['R 2'], LITTLE.frame(1, b'R\xaa\xbb' * 2))), (24, LITTLE.trace(['R 0'], LITTLE.frame(1, b'RR'))),
     ]
 
     def test_every_call(self):
@@ -89,7 +92,8 @@ class Files(Case):
         for number, file in ((6, BARE + b'\0\1\0\0\0'), (6, BARE + b'\0'), (7, BIG.trace([], FRAME)),
                              (8, BIG.trace([], BIG.frame(1, b'x'))), (9, BIG.trace(['R 2'], BIG.frame(1, b'R\xaa'))),
                              (10, BIG.trace([], BIG.frame(1, b'R'))), (18, BARE + bytes(2)), (18, BARE + bytes(5)),
-                             (18, BARE + b'\0\0\1\0'), (18, BIG.trace([], BIG.frame(0, BIG.variable(1, 2))))):
+                             (18, BARE + b'\0\0\1\0'), (18, BIG.trace([], BIG.frame(0, BIG.variable(1, 2)))),
+                             (24, BIG.trace(['R 2'], BIG.frame(1, b'R\xaa\xbb' * 2)))):
             self.refused(number, Trace, file, 'big')
 
     def test_the_longest_file(self):

@@ -120,8 +120,8 @@ class Frames(Case):
 
     def test_table(self):
         for made in BOTH:
-            trace = Trace(made.trace(['R 2'], made.frame(65535, made.registers(b'AB'), made.registers(b'CD')),
-                                     made.frame(256), made.frame(7, made.memory(1, b'xyz'))), made.order)
+            trace = Trace(made.trace(['R 5'], made.frame(65535, made.registers(b'ABRCD')), made.frame(256),
+                                     made.frame(7, made.memory(1, b'xyz'))), made.order)
             self.assertEqual([(f.number, f.tracepoint, f.place, f.size) for f in trace],
                              [(0, 65535, 19, 6), (1, 256, 31, 0), (2, 7, 37, 14)])
             self.assertEqual(bytes(trace.frame(0).data), b'RABRCD')
@@ -180,13 +180,14 @@ class Blocks(Case):
         for made in BOTH:
             file = made.trace(['R 3', 'status 1'], made.frame(1), made.frame(
                 2, made.variable(2 ** 32 - 1, -2 ** 63), made.memory(TOP, b''), made.registers(b'MRV'),
-                made.memory(0x4D, b'RRR'), made.registers(b'abc'), made.variable(5, 2 ** 63 - 1)))
-            frame = Trace(file, made.order).frame(1)
+                made.memory(0x4D, b'RRR'), made.variable(5, 2 ** 63 - 1)), made.frame(3, made.registers(b'abc')))
+            _, frame, last = Trace(file, made.order)
             self.assertEqual(frame.place, 34)
             self.assertEqual(frame.blocks, [
                 Variable(34, 2 ** 32 - 1, -2 ** 63), Memory(47, TOP, 0, b''), Registers(58, b'MRV'),
-                Memory(62, 0x4D, 3, b'RRR'), Registers(76, b'abc'), Variable(80, 5, 2 ** 63 - 1)])
-            self.assertEqual(bytes(frame.registers), b'MRV')
+                Memory(62, 0x4D, 3, b'RRR'), Variable(76, 5, 2 ** 63 - 1)])
+            self.assertEqual(last.blocks, [Registers(95, b'abc')])
+            self.assertEqual((bytes(frame.registers), bytes(last.registers)), (b'MRV', b'abc'))
 
     def test_no_registers(self):
         frame, = Trace(LITTLE.trace(['R 2'], LITTLE.frame(1, LITTLE.variable(0x52, 0x52))))

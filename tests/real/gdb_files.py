@@ -1,8 +1,8 @@
 """Traces that gdb saved, held against what gdb itself reads in them.
 
 They are read as saved, in the base that holds where none is said, and every line, frame, block, register byte, memory
-byte and variable is compared, and whether the end mark is there. Two are broken: each is refused, and compared up to
-where it is."""
+byte and variable is compared, and whether the end mark is there. Three are refused: two are compared up to where they
+are broken, the third without the register blocks that its frames have twice."""
 import collections
 import hashlib
 import json
@@ -10,6 +10,7 @@ import pathlib
 import subprocess
 import sys
 
+import raw_file
 from report import refusal, same
 from tufakpeni import Memory, Refusal, Registers, Trace, Variable
 
@@ -22,6 +23,7 @@ MARK = bytes(4)
 # The files that are refused as saved. All others are read.
 BROKEN = {
     'circular': Refusal.BAD_LETTER,     # the frame that gdbserver broke starts with a 00 where a letter should be
+    'raw': Refusal.SECOND_REGISTERS,    # gdbserver was told to collect registers twice in a frame
     'zeronum': Refusal.BAD_MARK,        # a head of number 0, with frames behind it
 }
 
@@ -134,11 +136,11 @@ def test_read(report, name, file):
         compare_registers(trace, rows(name, 'regs'))
 
 
-def test_whole(report, name, file):
+def test_whole(report, name, file, facts):
     """What is known of a file that is read whole, and then all that gdb reads in it."""
-    trace = Trace(file, FACTS[name]['order'])
+    trace = Trace(file, facts['order'])
     with report.case(f'{name}: lines, opening and blocks'):
-        compare_description(trace, FACTS[name])
+        compare_description(trace, facts)
     with report.case(f'{name}: the end mark'):
         same(trace.marked, name not in UNMARKED)
     test_read(report, name, file)
@@ -213,10 +215,30 @@ def test_zero_numbers(report, sound):
         same((len(trace), trace.marked), (summary['frames'], True))
 
 
+def test_second_registers(report, saved, sound):
+    """gdb reads every frame of raw.tf, and of two register blocks in a frame it shows the first. Here such a frame is
+    refused; without its second block it is read, and all is as gdb reads it."""
+    frames = list(raw_file.frames(saved))
+    twice = [tracepoint == raw_file.TWICE for tracepoint, _ in frames]
+    with report.case('raw: up to the first frame, which has two register blocks'):
+        same((len(Trace(saved[:raw_file.OPENING])), twice[0]), (0, True))
+    with report.case('raw: each frame alone'):
+        alone = [refusal(Trace, saved[:raw_file.OPENING] + raw_file.frame(*frame)) for frame in frames]
+        same(alone, [Refusal.SECOND_REGISTERS if two else None for two in twice])
+    with report.case('raw: the second block has the bytes of the first'):
+        seconds = [data[-raw_file.BLOCK:] for (_, data), two in zip(frames, twice) if two]
+        same(seconds, [b'R' + frame.registers for frame, two in zip(Trace(sound), twice) if two])
+    # The second register block is the fifth block of its frame.
+    shapes = {' '.join(blocks.split()[:4]): count for blocks, count in FACTS['raw']['blocks'].items()}
+    test_whole(report, 'raw', sound, {**FACTS['raw'], 'blocks': shapes})
+
+
 def sound_part(name, saved):
-    """The whole file, and of a broken one the part that gdb reads too."""
+    """The whole file, and of a refused one what gdb reads too."""
     if name == 'circular':
         return saved[:CIRCULAR_BROKEN_AT]
+    if name == 'raw':
+        return raw_file.registers_once(saved)
     if name == 'zeronum':
         return saved[:saved.index(b'\n\n') + len(b'\n\n') + len(MARK)]
     return saved
@@ -229,10 +251,12 @@ def test_file(report, name):
     test_decimal(report, name, saved, sound)
     if name == 'zeronum':
         test_zero_numbers(report, sound)
+    elif name == 'raw':
+        test_second_registers(report, saved, sound)
     elif name in BROKEN:
         test_read(report, name, sound)
     else:
-        test_whole(report, name, saved)
+        test_whole(report, name, saved, FACTS[name])
 
 
 def test(report):

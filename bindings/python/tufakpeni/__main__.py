@@ -13,8 +13,9 @@ LIMIT = 67_108_864
 REFUSED = 1
 UNREADABLE = 2
 
-# What a file may be refused with because its R line was read in the other base.
-BY_THE_BASE = (Refusal.BAD_LINE, Refusal.BAD_LETTER, Refusal.BLOCK_PAST_DATA)
+# What a file may be refused with because its R line was read in the other base. In the wrong base a register block ends
+# early or late, and whatever byte stands there is taken for a letter, an `R` too.
+BY_THE_BASE = (Refusal.BAD_LINE, Refusal.BAD_LETTER, Refusal.BLOCK_PAST_DATA, Refusal.SECOND_REGISTERS)
 
 
 def arguments(words=None):
@@ -56,12 +57,22 @@ def show(data, chosen):
             sys.stdout.writelines(line + '\n' for line in shown_trace(trace, chosen))
 
 
+def register_size(data, base):
+    """The size of a register block by the opening alone; None where the opening says none in this base."""
+    opening = data[:data.find(b'\n\n') + len(b'\n\n')]
+    try:
+        with Trace(opening, base=base) as trace:
+            return trace.register_size
+    except Refused:
+        return None
+
+
 def explained(refused, data, base):
-    """A refusal as text; where the base may be the reason, with the base that was tried and how to try the other."""
-    described = data.find(b'\n\n') + 1
-    if refused.number not in BY_THE_BASE or data.find(b'\nR ', 0, described) < 0:
-        return str(refused)
+    """A refusal as text; where the base may be the reason, with the base that was tried and how to try the other. It is
+    not where the other base says no size, or the same."""
     other, = set(BASES) - {base}
+    if refused.number not in BY_THE_BASE or register_size(data, other) in (None, register_size(data, base)):
+        return str(refused)
     return f'{refused}\nbase {base} was tried for the R line; to try the other: --base {other}'
 
 

@@ -14,7 +14,7 @@ VARIABLE = 'TUFAKPENI_LIBRARY'
 NAME = 'libtufakpeni.so'
 
 # The number of the interface that is declared here, as include/tufakpeni.h had it.
-INTERFACE = 3
+INTERFACE = 4
 
 MAKE = f"""Make it in the repository's root by
     rt staticlib trace_c

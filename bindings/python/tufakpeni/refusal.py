@@ -30,6 +30,7 @@ class Refusal(enum.IntEnum):
     BAD_RANGE = 16, "CPU count above 1,024; a CPU range misaligned, before the header's end or past the file"
     RANGES_OVERLAP = 17, 'two CPU ranges overlap'
     BAD_MARK = 18, 'a bad end mark'
+    SECOND_REGISTERS = 24, 'a second `R` block in a frame'
 
 
 class Refused(Exception):

@@ -21,7 +21,7 @@ class Line(NamedTuple):
 
 
 class Registers(NamedTuple):
-    """A register block. `place` is that of its letter, `data` its bytes without the letter."""
+    """A frame's only register block. `place` is that of its letter, `data` its bytes without the letter."""
 
     place: int
     data: memoryview
@@ -81,7 +81,7 @@ class Frame:
 
     @property
     def registers(self):
-        """The bytes of the earliest register block."""
+        """The bytes of the frame's register block. It is the only one: a file with two in a frame is refused."""
         return self._part('tfk_registers_place')
 
     def memory(self, address):

@@ -9,7 +9,7 @@ use std::ops::Range;
 /// What a block carries.
 #[derive(Clone, Copy, Debug, PartialEq, Eq)]
 pub enum Content<'a> {
-    /// The bytes of the registers, as many as the R line says.
+    /// The bytes of the registers, as many as the R line says. A frame has at most one such block.
     Registers(&'a [u8]),
     /// Memory, from an address on.
     Memory { address: u64, bytes: &'a [u8] },
@@ -90,6 +90,7 @@ fn content_of<'a>(block: &raw::Block, bytes: &'a [u8]) -> Content<'a> {
     }
 }
 
+/// A piece of a frame's blocks is a frame's too: like all of them it has at most one `R` block.
 impl Run for Manner<'_> {
     type Element = raw::Block;
 
@@ -97,7 +98,7 @@ impl Run for Manner<'_> {
         Manner::dress(self, piece, trace)
     }
 
-    /// A register block's record has no length; all are as long as the earliest one.
+    /// A register block's record has no length; that of the registers is its own, since a frame has no other.
     fn ask(&self, trace: &[u8], k: usize) -> Option<raw::Block> {
         let mut block = raw::block_record(self.settings, trace, 0, k).ok()?;
         if block.letter == b'R' {

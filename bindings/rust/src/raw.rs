@@ -130,7 +130,7 @@ pub struct CpuRange {
 }
 
 /// The number of the interface that is declared here, as include/tufakpeni.h had it.
-const INTERFACE: u64 = 3;
+const INTERFACE: u64 = 4;
 
 extern "C" {
     fn tfk_interface() -> u64;

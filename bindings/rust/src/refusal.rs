@@ -52,11 +52,13 @@ pub enum Refusal {
     RangesOverlap = 17,
     /// A bad end mark: two bytes of 0 where a frame head should start, and not exactly four of 0 from there to the file's end.
     BadMark = 18,
+    /// A second `R` block in a frame.
+    SecondRegisters = 24,
 }
 
 impl Refusal {
     /// Every refusal, in the order of their numbers.
-    pub const ALL: [Refusal; 18] = [
+    pub const ALL: [Refusal; 19] = [
         Refusal::TooLong,
         Refusal::BadArgument,
         Refusal::BadHead,
@@ -75,17 +77,17 @@ impl Refusal {
         Refusal::BadRange,
         Refusal::RangesOverlap,
         Refusal::BadMark,
+        Refusal::SecondRegisters,
     ];
 
-    /// Its number, 1 to 18.
+    /// Its number, 1 to 18 or 24.
     pub fn number(self) -> u8 {
         self as u8
     }
 
     /// The refusal of a number, if there is one.
     pub fn of_number(number: u8) -> Option<Refusal> {
-        let row = usize::from(number).checked_sub(1)?;
-        Refusal::ALL.get(row).copied()
+        Refusal::ALL.into_iter().find(|refusal| refusal.number() == number)
     }
 
     /// When it is given, in the words of documents 01 and 02.
@@ -115,6 +117,7 @@ impl Refusal {
             }
             Refusal::RangesOverlap => "two CPU ranges overlap",
             Refusal::BadMark => "a bad end mark",
+            Refusal::SecondRegisters => "a second `R` block in a frame",
         }
     }
 }

@@ -227,7 +227,22 @@ impl<'a> Frame<'a> {
         self.part(found.place - data + self.record.place, found.length)
     }
 
-    /// The bytes of its earliest `R` block.
+    /// The bytes of its `R` block. It has no other: a file with a second one in a frame is refused.
+    ///
+    /// ```
+    /// use tufakpeni::{Order, Refusal, Trace};
+    ///
+    /// let file = b"\x7fTRACE0\nR 2\n\n\x01\0\x03\0\0\0R\xAA\xBB\x01\0\0\0\0\0";
+    /// let trace = Trace::open(Order::Little, file)?;
+    /// assert_eq!(trace.frame(0)?.registers()?, [0xAA, 0xBB]);
+    /// assert_eq!(trace.frame(1)?.registers(), Err(Refusal::NotFound));
+    ///
+    /// let twice = b"\x7fTRACE0\nR 2\n\n\x01\0\x06\0\0\0R\xAA\xBBR\xCC\xDD";
+    /// let refusal = Trace::open(Order::Little, twice).unwrap_err();
+    /// assert_eq!(refusal, Refusal::SecondRegisters);
+    /// assert_eq!(refusal.to_string(), "refusal 24: a second `R` block in a frame");
+    /// # Ok::<(), Refusal>(())
+    /// ```
     pub fn registers(&self) -> Result<&'a [u8], Refusal> {
         let (alone, data) = self.alone();
         let found = raw::registers_place(self.manner.settings, &alone, 0)?;

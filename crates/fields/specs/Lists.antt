@@ -43,6 +43,16 @@ abbrev pub EachAfter : {A S : Type 0} → (S → A → Type 0) → (S → A → 
 EachAfter F after s [] = Unit {0}
 EachAfter F after s (x ∷ xs) = F s x × EachAfter F after (after s x) xs
 
+-- where what was met does not count, each fits by itself
+module _ {A : Type 0} (F : A → Type 0) where
+  pub each-after : (l : List A) → Each F l → EachAfter (λ s. F) (λ s a. s) (tt {0}) l
+  each-after [] h = tt
+  each-after (a ∷ l) h = (h .0, each-after l (h .1))
+
+  pub after-each : (l : List A) → EachAfter (λ s. F) (λ s a. s) (tt {0}) l → Each F l
+  after-each [] h = tt
+  after-each (a ∷ l) h = (h .0, after-each l (h .1))
+
 -- how many elements pass a test
 abbrev pub one : Bool → ℕ
 one true = 1
@@ -56,17 +66,40 @@ abbrev pub AtMostOne : {A : Type 0} → (A → Bool) → List A → Type 0
 AtMostOne p xs = count p xs ≤ 1
 
 -- the same met one by one: an element that passes is the first such. k more pass after it.
+pub first-counts : (seen t : Bool) (k : ℕ) → (t ≡ true → seen ≡ false) → one (seen || t) + k ≡ one seen + (one t + k)
+first-counts false false k h = omega arith
+first-counts false true k h = omega arith
+first-counts true false k h = omega arith
+first-counts true true k h = let z : true ≡ false = h refl in clash (cc)
+
 pub first-of : (seen t : Bool) (k : ℕ) → (t ≡ true → seen ≡ false) → one (seen || t) + k ≤ 1 → one seen + (one t + k) ≤ 1
-first-of false false k h e = omega arith
-first-of false true k h e = omega arith
-first-of true false k h e = omega arith
-first-of true true k h e = let z : true ≡ false = h refl in clash (cc)
+first-of seen t k h e = rw (← first-counts seen t k h) e
 
 pub first-then : (seen t : Bool) (k : ℕ) → one seen + (one t + k) ≤ 1 → (t ≡ true → seen ≡ false) × (one (seen || t) + k ≤ 1)
 first-then false false k e = ((λ h. refl), omega arith)
 first-then false true k e = ((λ h. refl), omega arith)
 first-then true false k e = ((λ h. clash (cc)), omega arith)
 first-then true true k e = absurd (omega arith)
+
+-- so of a list: each fits and at most one passes, exactly where each fits and one that passes is the first such
+module _ {A : Type 0} (F : A → Type 0) (p : A → Bool) where
+  abbrev pub FirstsAfter : Bool → List A → Type 0
+  FirstsAfter seen l = EachAfter (λ seen a. F a × (p a ≡ true → seen ≡ false)) (λ seen a. seen || p a) seen l
+
+  firsts-after : (seen : Bool) (l : List A) → Each F l → one seen + count p l ≤ 1 → FirstsAfter seen l
+  firsts-after seen [] h e = tt
+  firsts-after seen (a ∷ l) h e = let q = first-then seen (p a) (count p l) e in ((h .0, q .0), firsts-after (seen || p a) l (h .1) (q .1))
+
+  after-firsts : (seen : Bool) (l : List A) → FirstsAfter seen l → Each F l × (one seen + count p l ≤ 1)
+  after-firsts true [] h = (tt, omega arith)
+  after-firsts false [] h = (tt, omega arith)
+  after-firsts seen (a ∷ l) h = let q = after-firsts (seen || p a) l (h .1) in ((h .0 .0, q .0), first-of seen (p a) (count p l) (h .0 .1) (q .1))
+
+  pub firsts-of : (l : List A) → Each F l → AtMostOne p l → FirstsAfter false l
+  firsts-of l h e = firsts-after false l h (omega (arith, e))
+
+  pub of-firsts : (l : List A) → FirstsAfter false l → Each F l × AtMostOne p l
+  of-firsts l h = let q = after-firsts false l h in (q .0, omega (arith, q .1))
 
 pub drop-one : (l : List ℕ) (k : ℕ) → k < length l → drop k l ≡ getD l k 0 ∷ drop (k + 1) l
 drop-one l k h = rw (add-one k) (drop-cons l k 0 h)

@@ -11,10 +11,10 @@ use mathlib.Core.List.{List, [], _∷_}
 use lib.ListN.{length}
 use lib.Dec.{T, leb, eqb}
 use borrow.Author.Tests.{eqb-true, leb-false, lt-leb}
-use Rattle.refusals.specs.Refusal.{limit, tooLong, noRoom}
+use Rattle.refusals.specs.Refusal.{limit, tooLong, noRoom, table}
 use Rattle.fields.specs.Lists.{Each}
 use Rattle.fields.specs.Answer.{Answer, accepted, refused, next, never}
-use Rattle.fields.specs.Reader.{Reader, _>>=_, give, refuse, bytes, num, filling, toEndF, toEnd, endOr, until}
+use Rattle.fields.specs.Reader.{Reader, _>>=_, give, refuse, bytes, num, filling, toEndF, toEndAfter, endOr, until}
 use Rattle.fields.specs.Takes.{Shorter}
 use Rattle.fields.specs.Until.{until-step}
 use Rattle.fields.specs.Output.{fitting, answer}
@@ -35,6 +35,10 @@ among (n ∷ ns) k = eqb n k || among ns k
 
 abbrev pub OneOf : List ℕ → ℕ → Type 0
 OneOf ns k = T (among ns k)
+
+-- a number of the table
+abbrev pub Listed : ℕ → Type 0
+Listed = OneOf table
 
 -- P holds of a number of a list where it holds of them all
 each-one : (P : ℕ → Type 0) (ns : List ℕ) → Each P ns → (k : ℕ) → OneOf ns k → P k
@@ -107,14 +111,15 @@ module _ {P : ℕ → Type 0} where
   pub refusing-num : (o : Order) (w k : ℕ) → P k → Refusing P (num o w k)
   refusing-num o w k h = refusing-then (refusing-bytes w k h) (λ b. refusing-give)
 
-  pub refuses-to-end : {A : Type 0} {p : Reader A} → Refusing P p → (b : List ℕ) → Refuses P (toEnd p b)
-  unfolding toEnd
-  refuses-to-end {A} {p} h b = by (length b) b
+  refuses-to-end : {A S : Type 0} {p : S → Reader A} (after : S → A → S) → ((s : S) → Refusing P (p s)) → (s : S) (b : List ℕ)
+      → Refuses P (toEndAfter p after s b)
+  unfolding toEndAfter
+  refuses-to-end {A} {S} {p} after h s b = by (length b) s b
     where
-      by : (n : ℕ) (b : List ℕ) → Refuses P (toEndF n p b)
-      by zero b = refuses-never
-      by (suc n) [] = refuses-never
-      by (suc n) (x ∷ xs) = refuses-next (h .reading (x ∷ xs)) (λ r. refuses-next (by n (r .1)) (λ l. refuses-never))
+      by : (n : ℕ) (s : S) (b : List ℕ) → Refuses P (toEndF n p after s b)
+      by zero s b = refuses-never
+      by (suc n) s [] = refuses-never
+      by (suc n) s (x ∷ xs) = refuses-next ((h s) .reading (x ∷ xs)) (λ r. refuses-next (by n (after s (r .0)) (r .1)) (λ l. refuses-never))
 
   refuses-end : {A E : Type 0} (x : Option E) {y : Answer (List A × E)} → Refuses P y → Refuses P (endOr x y)
   refuses-end (some e) h = refuses-never
@@ -130,8 +135,9 @@ module _ {P : ℕ → Type 0} where
           (refuses-end (ends b) (refuses-after (h .reading b) (λ r e.
           refuses-next (by n (r .1) (omega (arith, k, short b (r .0) (r .1) e))) (λ q. refuses-never))))
 
-  pub refusing-filling : {A : Type 0} {p : Reader A} (d : List ℕ) → Refusing P p → Refusing P (filling d p)
-  refusing-filling d h = record { reading = λ b. refuses-next (refuses-to-end h d) (λ l. refuses-never) }
+  pub refusing-filling : {A S : Type 0} {p : S → Reader A} (after : S → A → S) (d : List ℕ) → ((s : S) → Refusing P (p s)) → (s : S)
+      → Refusing P (filling d p after s)
+  refusing-filling after d h s = record { reading = λ b. refuses-next (refuses-to-end after h s d) (λ l. refuses-never) }
 
   pub refusing-in : {A : Type 0} (ns : List ℕ) {p : Reader A} → Each P ns → Refusing (OneOf ns) p → Refusing P p
   refusing-in ns h r = record { reading = λ b. refuses-in ns h (r .reading b) }

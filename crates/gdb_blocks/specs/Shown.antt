@@ -107,15 +107,21 @@ pub piece-shown : {s : Settings} {b : List ℕ} {n : ℕ} {g : Block → Option 
 piece-shown {s} {b} {n} {g} {p} {k} q i m h =
     piece-there b (q .bytes) p i m (ap (λ l. take l (drop p b)) (q .are-all) ∙ q .are-there) (omega (arith, q .are-all))
 
+-- the frame whose bytes are shown fits the layout
+pub shown-fits : {s : Settings} {b : List ℕ} {n : ℕ} {g : Block → Option (List ℕ)} {p k : ℕ} → Bytes b → (q : BytesShown s b n g p k)
+    → FrameFits (q .format) (registerSize (q .format) (q .trace .lines)) (q .frame)
+shown-fits {s} {b} {n} h q =
+    let i = file-of s b (q .format) (q .trace) h (q .was-read) in
+    each-nth (FrameFits (q .format) (registerSize (q .format) (q .trace .lines))) (q .trace .frames) n (q .frame) (i .fits .frames-fit) (q .is-frame)
+
 -- the registers are as many bytes as the R line says
 pub registers-said : {s : Settings} {b : List ℕ} {n p k : ℕ} → Bytes b → (q : BytesShown s b n registersOf p k)
     → registerSize (q .format) (q .trace .lines) ≡ some k
-registers-said {s} {b} {n} h q =
+registers-said h q =
     let size = registerSize (q .format) (q .trace .lines) in
-    let i = file-of s b (q .format) (q .trace) h (q .was-read) in
-    let r = each-nth (FrameFits (q .format) size) (q .trace .frames) n (q .frame) (i .fits .frames-fit) (q .is-frame) in
     let l = q .is-earliest in
-    let w = each-nth (BlockFits size) (q .frame .blocks) (length (l .before)) (l .element) (r .2) (earliest-nth registersOf (q .frame .blocks) (q .bytes) l) in
+    let first = earliest-nth registersOf (q .frame .blocks) (q .bytes) l in
+    let w = each-nth (BlockFits size) (q .frame .blocks) (length (l .before)) (l .element) ((shown-fits h q) .2) first in
     fits-size size (l .element) (q .bytes) w (l .finds) ∙ ap some (q .are-all)
   where
     fits-size : (size : Option ℕ) (x : Block) (d : List ℕ) → BlockFits size x → registersOf x ≡ some d → size ≡ some (length d)

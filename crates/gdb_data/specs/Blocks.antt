@@ -1,8 +1,8 @@
 -- What the steps over a frame's blocks answer, in the paper's terms.
 -- Assumes nothing: these are definitions.
-use mathlib.Core.Bool.{cond}
+use mathlib.Core.Bool.{Bool, cond}
 use mathlib.Core.Option.{Option, none, some}
-use Prim.Native.Nat.{ℕ, _+_, _-_}
+use Prim.Native.Nat.{ℕ, _+_}
 use mathlib.Core.List.{List}
 use lib.ListN.{length, getD}
 use lib.Dec.{eqb}
@@ -10,18 +10,18 @@ use lib.IntN.{ℤ}
 use Rattle.fields.specs.Number.{wordAt}
 use Rattle.fields.specs.Signed.{signed64}
 use Rattle.fields.specs.Answer.{Answer, accepted, refused, next}
-use Rattle.fields.specs.Reader.{toEnd}
+use Rattle.fields.specs.Reader.{toEndAfter}
 use Rattle.gdb_format.specs.Trace.{Block}
 use Rattle.gdb_format.specs.Trace as trace
-use Rattle.gdb_format.specs.Decode.{block}
+use Rattle.gdb_format.specs.Decode.{blockAfter, seenAfter}
 use Rattle.gdb_format.specs.declared.Format.{Format}
 use Rattle.gdb_data.specs.declared.BlockKind.{BlockKind}
 use Rattle.gdb_data.specs.declared.BlockKind.the-variants.{Registers, Memory, Variable}
 use Rattle.gdb_data.specs.declared.BlockRecord.{BlockRecord}
 use Rattle.gdb_data.specs.declared.BlockStep.{BlockStep}
 use Rattle.gdb_data.specs.declared.BlockStep.the-variants as step
-use Rattle.gdb_data.specs.declared.BlockEnd.{BlockEnd}
-use Rattle.gdb_data.specs.declared.BlockEnd.the-variants as blockend
+use Rattle.gdb_data.specs.declared.ContentEnd.{ContentEnd}
+use Rattle.gdb_data.specs.declared.ContentEnd.the-variants as contentend
 use Rattle.gdb_data.specs.declared.Verdict.{Verdict}
 use Rattle.gdb_data.specs.declared.Verdict.the-variants as verdict
 
@@ -61,23 +61,15 @@ kindAt f d at =
     (cond (eqb (getD d at 0) 0x4D) (memory (wordAt (f .order) 8 d (at + 1)) (wordAt (f .order) 2 d (at + 9)))
     (variable (wordAt (f .order) 4 d (at + 1)) (signed64 (wordAt (f .order) 8 d (at + 5)))))
 
--- of a block that is passed over nothing is told but where it ends
-abbrev pub blockPassed : ℕ → Block → Unit {0}
-blockPassed at b = tt
+-- of content that is passed over nothing is told but where it ends
+abbrev pub endMeaning : ContentEnd → Answer (Unit {0} × ℕ)
+endMeaning (contentend.At m) = accepted (tt, m)
+endMeaning (contentend.Refused n) = refused n
 
-abbrev pub endMeaning : BlockEnd → Answer (Option (Unit {0} × ℕ))
-endMeaning blockend.End = accepted none
-endMeaning (blockend.At m) = accepted (some (tt, m))
-endMeaning (blockend.Refused n) = refused n
-
--- by the reading of a block's content, or of a piece of it, in data of length `end`
-abbrev pub contentEnd : {A : Type 0} → ℕ → Answer (A × List ℕ) → Answer (Option (Unit {0} × ℕ))
-contentEnd end x = next x (λ r. accepted (some (tt, end - length (r .1))))
-
--- blocks fill the data exactly
 abbrev pub verdictMeaning : Verdict → Answer (Unit {0})
 verdictMeaning verdict.Sound = accepted tt
 verdictMeaning (verdict.Refused n) = refused n
 
-abbrev pub blocksFill : Format → Option ℕ → List ℕ → Answer (Unit {0})
-blocksFill f size d = next (toEnd (block f size) d) (λ bs. accepted tt)
+-- blocks fill the data exactly, where `seen` tells whether a register block stands before them
+abbrev pub blocksFill : Format → Option ℕ → Bool → List ℕ → Answer (Unit {0})
+blocksFill f size seen d = next (toEndAfter (blockAfter f size) seenAfter seen d) (λ bs. accepted tt)

@@ -1,18 +1,19 @@
 // The data of a frame: what block stands at a place, and whether blocks fill the data.
 ghost use mathlib.Core.Path.{_≡_};
 ghost use Prim.Native.Nat.{_<_, _≤_};
+ghost use mathlib.Core.Bool.{false};
 ghost use lib.ListN.{length, drop};
 ghost use Rattle.refusals.specs.Refusal.{blockPastData};
-ghost use Rattle.fields.specs.Reader.{bytes, stepAt};
+ghost use Rattle.fields.specs.Reader.{bytes, stepAt, passAt};
 ghost use Rattle.gdb_format.specs.Opening.{sizeMeaning};
-ghost use Rattle.gdb_format.specs.Decode.{registerBlock, memoryBlock, block};
-ghost use Rattle.gdb_data.specs.Blocks.{kindMeaning, kindAt, blockStepMeaning, blockSeen};
-ghost use Rattle.gdb_data.specs.Blocks.{endMeaning, blockPassed, contentEnd, verdictMeaning, blocksFill};
+ghost use Rattle.gdb_format.specs.Decode.{registerBlock, memoryBlock, blockOf, block};
+ghost use Rattle.gdb_data.specs.Blocks.{kindMeaning, kindAt, blockStepMeaning, blockSeen, endMeaning, verdictMeaning, blocksFill};
 use gdb_format::Format;
 use gdb_format::RegisterSize;
 use refusals::BAD_LETTER;
 use refusals::BLOCK_PAST_DATA;
 use refusals::NO_REGISTER_SIZE;
+use refusals::SECOND_REGISTERS;
 
 // The memory that a block holds: where it starts, and how many bytes.
 pub struct MemorySpan {
@@ -40,67 +41,62 @@ pub enum BlockStep {
     Refused(u8),
 }
 
-// Where a block ends: nothing where the data end, the place after the block, or a refusal. The walk that checks a file needs no more of it.
-enum BlockEnd {
-    End,
+// Where a block's content ends: the place after it, or a refusal. The walk that checks a file needs no more of it.
+enum ContentEnd {
     At(usize),
     Refused(u8),
 }
 
 // n bytes from `at` on.
-fn bytes_end(d: &[u8], at: usize, n: usize) -> BlockEnd
+fn bytes_end(d: &[u8], at: usize, n: usize) -> ContentEnd
     requires { ⌜ at ≤ length (now d) ⌝ }
-    ensures { λ r. ⌜ endMeaning r ≡ contentEnd (length (now (d .entry))) (bytes n blockPastData (drop at (now (d .entry)))) ⌝ }
+    ensures { λ r. ⌜ endMeaning r ≡ passAt (bytes n blockPastData) (now (d .entry)) at ⌝ }
 {
     if d.len() - at < n {
-        return BlockEnd::Refused(BLOCK_PAST_DATA);
+        return ContentEnd::Refused(BLOCK_PAST_DATA);
     }
-    BlockEnd::At(at + n)
+    ContentEnd::At(at + n)
 }
 
 // The content of a register block, from `at` on.
-fn registers_end(size: RegisterSize, d: &[u8], at: usize) -> BlockEnd
+fn registers_end(size: RegisterSize, d: &[u8], at: usize) -> ContentEnd
     requires { ⌜ at ≤ length (now d) ⌝ }
-    ensures { λ r. ⌜ endMeaning r ≡ contentEnd (length (now (d .entry))) (registerBlock (sizeMeaning size) (drop at (now (d .entry)))) ⌝ }
+    ensures { λ r. ⌜ endMeaning r ≡ passAt (registerBlock (sizeMeaning size)) (now (d .entry)) at ⌝ }
 {
     let RegisterSize::Bytes(n) = size else {
-        return BlockEnd::Refused(NO_REGISTER_SIZE);
+        return ContentEnd::Refused(NO_REGISTER_SIZE);
     };
     bytes_end(d, at, n)
 }
 
 // The content of a memory block: address and length, and that many bytes.
-fn memory_end(format: Format, d: &[u8], at: usize) -> BlockEnd
+fn memory_end(format: Format, d: &[u8], at: usize) -> ContentEnd
     requires { ⌜ at ≤ length (now d) ⌝ }
-    ensures { λ r. ⌜ endMeaning r ≡ contentEnd (length (now (d .entry))) (memoryBlock format (drop at (now (d .entry)))) ⌝ }
+    ensures { λ r. ⌜ endMeaning r ≡ passAt (memoryBlock format) (now (d .entry)) at ⌝ }
 {
     if d.len() - at < 10 {
-        return BlockEnd::Refused(BLOCK_PAST_DATA);
+        return ContentEnd::Refused(BLOCK_PAST_DATA);
     }
     let order = format.order;
     let length = fields::u16_at(d, order, at + 8) as usize;
     bytes_end(d, at + 10, length)
 }
 
-// What stands at `at`, and where it ends.
-fn block_end(format: Format, size: RegisterSize, d: &[u8], at: usize) -> BlockEnd
-    ensures { λ r. ⌜ endMeaning r ≡ stepAt blockPassed (block format (sizeMeaning size)) (now (d .entry)) at ⌝ }
+// The content behind a block's letter, from `at` on.
+fn content_end(format: Format, size: RegisterSize, letter: u8, d: &[u8], at: usize) -> ContentEnd
+    requires { ⌜ at ≤ length (now d) ⌝ }
+    ensures { λ r. ⌜ endMeaning r ≡ passAt (blockOf format (sizeMeaning size) letter) (now (d .entry)) at ⌝ }
 {
-    if d.len() <= at {
-        return BlockEnd::End;
-    }
-    let letter = d[at];
-    let body = at + 1;
     if letter == 82 {
-        return registers_end(size, d, body);
+        return registers_end(size, d, at);
     }
     if letter == 77 {
-        return memory_end(format, d, body);
+        return memory_end(format, d, at);
     }
     if letter == 86 {
-        return bytes_end(d, body, 12);
+        return bytes_end(d, at, 12);
     }
-    BlockEnd::Refused(BAD_LETTER)
+    ContentEnd::Refused(BAD_LETTER)
 }
 
 // The kind of the block whose letter stands at `at`, with what it carries.
@@ -125,14 +121,16 @@ fn kind_at(format: Format, d: &[u8], at: usize) -> BlockKind
     }
 }
 
-// What stands at `at`, in data that ends where `d` does.
+// What stands at `at`, in data that ends where `d` does. What stands before it does not count: a second register block is told like a first.
 pub fn block_at(format: Format, size: RegisterSize, d: &[u8], at: usize) -> BlockStep
     ensures { λ r. ⌜ blockStepMeaning r ≡ stepAt blockSeen (block format (sizeMeaning size)) (now (d .entry)) at ⌝ }
 {
-    match block_end(format, size, d, at) {
-        BlockEnd::End => BlockStep::End,
-        BlockEnd::Refused(n) => BlockStep::Refused(n),
-        BlockEnd::At(next) => BlockStep::Block {
+    if d.len() <= at {
+        return BlockStep::End;
+    }
+    match content_end(format, size, d[at], d, at + 1) {
+        ContentEnd::Refused(n) => BlockStep::Refused(n),
+        ContentEnd::At(next) => BlockStep::Block {
             record: BlockRecord {
                 place: at,
                 kind: kind_at(format, d, at),
@@ -148,22 +146,28 @@ pub enum Verdict {
     Refused(u8),
 }
 
-// Whether blocks fill `d` from `from` on exactly.
+// Whether blocks fill `d` from `from` on exactly, at most one of them a register block.
 pub fn blocks_from(format: Format, size: RegisterSize, d: &[u8], from: usize) -> Verdict
-    ensures { λ r. ⌜ verdictMeaning r ≡ blocksFill format (sizeMeaning size) (drop from (now (d .entry))) ⌝ }
+    ensures { λ r. ⌜ verdictMeaning r ≡ blocksFill format (sizeMeaning size) false (drop from (now (d .entry))) ⌝ }
 {
     let mut at = from;
-    loop {
-        match block_end(format, size, d, at) {
-            BlockEnd::End => {
-                return Verdict::Sound;
+    let mut seen = false;
+    while at < d.len() {
+        let letter = d[at];
+        if letter == 82 {
+            if seen {
+                return Verdict::Refused(SECOND_REGISTERS);
             }
-            BlockEnd::Refused(n) => {
+            seen = true;
+        }
+        match content_end(format, size, letter, d, at + 1) {
+            ContentEnd::Refused(n) => {
                 return Verdict::Refused(n);
             }
-            BlockEnd::At(next) => {
+            ContentEnd::At(next) => {
                 at = next;
             }
         }
     }
+    Verdict::Sound
 }

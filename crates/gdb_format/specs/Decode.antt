@@ -1,19 +1,19 @@
 -- Reading a GDB trace front to back: each rule with its refusal's number beside it, and the first fault met decides.
 -- Assumes nothing: these are definitions.
-use mathlib.Core.Bool.{Bool, true, false, cond}
+use mathlib.Core.Bool.{Bool, true, false, cond, _&&_, _||_}
 use mathlib.Core.Option.{Option, none, some}
 use Prim.Native.Nat.{ℕ}
 use mathlib.Core.List.{List, [], _∷_, _++_}
 use lib.ListN.{length}
 use lib.Dec.{leb, eqb}
 use Rattle.refusals.specs.Refusal.{limit, tooLong, badHead, noEmptyLine, badLine, shortHead, dataPastFile, badLetter, blockPastData, noRegisterSize}
-use Rattle.refusals.specs.Refusal.{badMark}
+use Rattle.refusals.specs.Refusal.{badMark, secondRegisters}
 use Rattle.fields.specs.Signed.{signed64}
 use Rattle.fields.specs.Word.{starts, sameBytes}
 use Rattle.fields.specs.Answer.{Answer, accepted, refused, next}
-use Rattle.fields.specs.Reader.{Reader, _>>=_, give, refuse, bytes, num, filling, toEnd, until}
+use Rattle.fields.specs.Reader.{Reader, _>>=_, give, refuse, bytes, num, filling, toEndAfter, until}
 use Rattle.fields.specs.declared.Order.the-variants.{Little}
-use Rattle.gdb_format.specs.Trace.{Block, registers, memory, variable, Frame, Trace, traceOf, head, mark}
+use Rattle.gdb_format.specs.Trace.{Block, registers, memory, variable, isRegisters, Frame, Trace, traceOf, head, mark}
 use Rattle.gdb_format.specs.Lines.{mayFollow, registerSize}
 use Rattle.gdb_format.specs.Settings.{settingsOf}
 use Rattle.gdb_format.specs.declared.Settings.{Settings}
@@ -49,11 +49,20 @@ blockOf f size letter =
     (cond (eqb letter 0x56) (variableBlock f)
     (refuse badLetter)))
 
-unfoldable pub block : Format → Option ℕ → Reader Block
+-- a block of a frame, where `seen` tells whether a register block stands before it there: a second one is refused at its letter
+unfoldable pub blockAfter : Format → Option ℕ → Bool → Reader Block
 unfolding blockOf
-block f size = do
+blockAfter f size seen = do
   letter ← num Little 1 blockPastData
-  blockOf f size letter
+  cond (seen && eqb letter 0x52) (refuse secondRegisters) (blockOf f size letter)
+
+abbrev pub seenAfter : Bool → Block → Bool
+seenAfter seen b = seen || isRegisters b
+
+-- a block by itself
+unfoldable pub block : Format → Option ℕ → Reader Block
+unfolding blockAfter
+block f size = blockAfter f size false
 
 -- ---- frames
 
@@ -73,8 +82,8 @@ frameHead f = do
 
 -- blocks fill the data exactly
 unfoldable pub blocks : Format → Option ℕ → List ℕ → Reader (List Block)
-unfolding block toEnd
-blocks f size d = filling d (block f size)
+unfolding blockAfter toEndAfter
+blocks f size d = filling d (blockAfter f size) seenAfter false
 
 unfoldable pub frame : Format → Option ℕ → Reader Frame
 unfolding frameHead blocks

@@ -10,7 +10,7 @@ use lib.ListN.{length}
 use lib.Dec.{eqb}
 use borrow.Author.Tests.{eqb-true, eqb-false, le-leb}
 use Rattle.refusals.specs.Refusal.{shortHead, dataPastFile, badMark}
-use Rattle.fields.specs.Lists.{concatMap, Each, clash}
+use Rattle.fields.specs.Lists.{concatMap, Each, AtMostOne, FirstsAfter, firsts-of, of-firsts, clash}
 use Rattle.fields.specs.Number.{Bytes, number, field, bytes-back}
 use Rattle.fields.specs.Word.{sameBytes, same-bytes}
 use Rattle.fields.specs.Answer.{accepted, refused, never, next, next-inv, accepted-inj}
@@ -22,10 +22,10 @@ use Rattle.fields.specs.Takes.{takes-refuse, takes-cond}
 use Rattle.fields.specs.Until.{Ends, goes-on, until-end, until-fault, until-more, back-until, forth-until}
 use Rattle.fields.specs.declared.Order.{Order}
 use Rattle.fields.specs.declared.Order.the-variants.{Little, Big}
-use Rattle.gdb_format.specs.Trace.{Block, Frame, dataOf, putBlock, putData, putFrame, mark, putMark}
+use Rattle.gdb_format.specs.Trace.{Block, isRegisters, Frame, dataOf, putBlock, putData, putFrame, mark, putMark}
 use Rattle.gdb_format.specs.Layout.{BlockFits, FrameFits}
-use Rattle.gdb_format.specs.Decode.{block, numbered, frameHead, blocks, frame, ending, frames}
-use Rattle.gdb_format.specs.ExactBlock.{exact-block, shorter-block}
+use Rattle.gdb_format.specs.Decode.{blockAfter, seenAfter, numbered, frameHead, blocks, frame, ending, frames}
+use Rattle.gdb_format.specs.ExactBlock.{exact-block-after, shorter-block-after}
 use Rattle.gdb_format.specs.declared.Format.{Format}
 
 -- ---- the head with its data
@@ -83,7 +83,7 @@ takes-head f =
 
 -- the frame that has this head, and blocks that fill its data
 abbrev IsFrame : Format → Option ℕ → ℕ × List ℕ → Frame → Type 0
-IsFrame f size h r = (r .tracepoint ≡ h .0) × Each (BlockFits size) (r .blocks) × (dataOf f r ≡ h .1)
+IsFrame f size h r = (r .tracepoint ≡ h .0) × Each (BlockFits size) (r .blocks) × (dataOf f r ≡ h .1) × AtMostOne isRegisters (r .blocks)
 
 abbrev body : Format → Option ℕ → ℕ × List ℕ → Reader Frame
 body f size h = do
@@ -92,21 +92,24 @@ body f size h = do
 
 body-back : (f : Format) (size : Option ℕ) (h : ℕ × List ℕ) → Back (body f size h) (IsFrame f size h) (λ r. [])
 unfolding blocks
-body-back f size h r rest g = rw (back-filling (exact-block f size) (shorter-block f size) (h .1) (r .blocks) rest (g .1, g .2), ← g .0)
+body-back f size h r rest g =
+    let first = firsts-of (BlockFits size) isRegisters (r .blocks) (g .1) (g .3) in
+    rw (back-filling seenAfter (exact-block-after f size) (shorter-block-after f size) false (h .1) (r .blocks) rest (first, g .2), ← g .0)
 
-data-bytes : (f : Format) (h : ℕ × List ℕ) → Bytes (putData f h) → Bytes (h .1)
+pub data-bytes : (f : Format) (h : ℕ × List ℕ) → Bytes (putData f h) → Bytes (h .1)
 data-bytes f h b =
     bytes-back (field (f .order) 4 (length (h .1))) (h .1) (bytes-back (field (f .order) 2 (h .0)) (field (f .order) 4 (length (h .1)) ++ h .1) b)
 
-made-frame : (f : Format) (size : Option ℕ) (h : ℕ × List ℕ) (bs : List Block) (r : Frame) → Each (BlockFits size) bs × (concatMap (putBlock f) bs ≡ h .1)
+made-frame : (f : Format) (size : Option ℕ) (h : ℕ × List ℕ) (bs : List Block) (r : Frame)
+    → FirstsAfter (BlockFits size) isRegisters false bs × (concatMap (putBlock f) bs ≡ h .1)
     → record { tracepoint = h .0; blocks = bs } ≡ r → IsFrame f size h r
-made-frame f size h bs r g e = rw (← e) (refl, g .0, g .1)
+made-frame f size h bs r g e = let q = of-firsts (BlockFits size) isRegisters bs (g .0) in rw (← e) (refl, q .0, g .1, q .1)
 
 body-forth : (f : Format) (size : Option ℕ) (h : ℕ × List ℕ) → Bytes (putData f h) → Forth (body f size h) (IsFrame f size h) (λ r. [])
 unfolding blocks
 body-forth f size h w b r rest hb e =
     let q = next-inv (blocks f size (h .1) b) _ e in
-    let g = forth-filling (exact-block f size) (shorter-block f size) (h .1) (data-bytes f h w) b (q .0 .0) (q .0 .1) hb (q .1) in
+    let g = forth-filling seenAfter (exact-block-after f size) (shorter-block-after f size) false (h .1) (data-bytes f h w) b (q .0 .0) (q .0 .1) hb (q .1) in
     let i = accepted-inj (q .2) in
     (made-frame f size h (q .0 .0) r (g .0) (i .0), sym (i .1) ∙ g .1)
 
@@ -116,8 +119,8 @@ exact-frame f size =
     exact-as
     (exact-given (exact-head f) (body f size) (IsFrame f size) (λ h r. []) (body-back f size) (body-forth f size)
     (λ r. (r .tracepoint, dataOf f r)) (λ h r g e. same h r (e .0) (e .2)))
-    (λ r g. (((g .0, g .1, g .3), (refl, g .2, refl)), append-nil (putFrame f r)))
-    (λ r g. ((g .0 .0, g .0 .1, g .1 .1, g .0 .2), append-nil (putFrame f r)))
+    (λ r g. (((g .0, g .1, g .3), (refl, g .2, refl, g .4)), append-nil (putFrame f r)))
+    (λ r g. ((g .0 .0, g .0 .1, g .1 .1, g .0 .2, g .1 .3), append-nil (putFrame f r)))
   where
     same : (h : ℕ × List ℕ) (r : Frame) → r .tracepoint ≡ h .0 → dataOf f r ≡ h .1 → (r .tracepoint, dataOf f r) ≡ h
     same h r i j = rw (i, j)
@@ -125,7 +128,8 @@ exact-frame f size =
 pub takes-frame : (f : Format) (size : Option ℕ) → Takes 1 (frame f size)
 unfolding frame blocks
 takes-frame f size =
-    takes-then 1 (takes-head f) (λ h. takes-then 0 (takes-filling (h .1) (block f size)) (λ bs. takes-give (record { tracepoint = h .0; blocks = bs })))
+    takes-then 1 (takes-head f) (λ h. takes-then 0 (takes-filling (h .1) (blockAfter f size) seenAfter false) (λ bs.
+    takes-give (record { tracepoint = h .0; blocks = bs })))
 
 pub shorter-frame : (f : Format) (size : Option ℕ) → Shorter (frame f size)
 shorter-frame f size = shorter 1 (frame f size) (omega arith) (takes-frame f size)

@@ -11,7 +11,7 @@ use lib.Dec.{leb}
 use Rattle.refusals.specs.Refusal.{limit}
 use Rattle.fields.specs.Lists.{Each, AtMostOne}
 use Rattle.fields.specs.Signed.{Signed64}
-use Rattle.gdb_format.specs.Trace.{Block, registers, memory, variable, Frame, Trace, dataOf, encode}
+use Rattle.gdb_format.specs.Trace.{Block, registers, memory, variable, isRegisters, Frame, Trace, dataOf, encode}
 use Rattle.gdb_format.specs.Lines.{isRegister, isStatus, registerSize}
 use Rattle.gdb_format.specs.Settings.{radix}
 use Rattle.gdb_format.specs.declared.Base.{Base}
@@ -69,9 +69,10 @@ BlockFits size (registers b) = size ≡ some (length b)
 BlockFits size (memory a b) = (a < 2 ^ 64) × (length b < 2 ^ 16)
 BlockFits size (variable n v) = (n < 2 ^ 32) × Signed64 v
 
--- no frame has the number 0, which begins the end mark
+-- no frame has the number 0, which begins the end mark; of its blocks at most one is a register block
 abbrev pub FrameFits : Format → Option ℕ → Frame → Type 0
-FrameFits f size r = (r .tracepoint < 2 ^ 16) × (length (dataOf f r) < 2 ^ 32) × Each (BlockFits size) (r .blocks) × (0 < r .tracepoint)
+FrameFits f size r =
+    (r .tracepoint < 2 ^ 16) × (length (dataOf f r) < 2 ^ 32) × Each (BlockFits size) (r .blocks) × (0 < r .tracepoint) × AtMostOne isRegisters (r .blocks)
 
 pub record Layout (f : Format) (t : Trace) : Type 0 where
   pub lines-fit : LinesFit f (t .lines)

@@ -13,4 +13,3 @@ pub mod ExactFrame
 pub mod ExactLines
 pub mod Exactness
 pub mod Numbers
-pub mod Mark

@@ -2,13 +2,14 @@
 -- Assumes nothing.
 use mathlib.Core.Path.{_≡_, refl, sym, _∙_}
 use mathlib.Core.Logic.{_↔_}
+use mathlib.Core.Bool.{Bool, false, _&&_}
 use mathlib.Core.Option.{Option, none, some}
 use Prim.Native.Nat.{ℕ, zero, suc, _<_}
 use mathlib.Core.List.{List, [], _∷_, _++_}
 use lib.ListN.{length}
 use lib.Dec.{leb, eqb}
 use Rattle.refusals.specs.Refusal.{limit, tooLong, badArgument, badHead, noEmptyLine, badLine, shortHead, dataPastFile}
-use Rattle.refusals.specs.Refusal.{badLetter, blockPastData, noRegisterSize, badMark}
+use Rattle.refusals.specs.Refusal.{badLetter, blockPastData, noRegisterSize, badMark, secondRegisters}
 use Rattle.fields.specs.Word.{starts}
 use Rattle.fields.specs.Answer.{Answer, accepted, refused, next, never, refused-inv}
 use Rattle.fields.specs.Refuses.{Refuses, Refusing, OneOf, refuses-never, refuses-with, refuses-cond, refuses-next, refuses-in, refuses-too-long}
@@ -19,43 +20,51 @@ use Rattle.gdb_format.specs.Trace.{Trace, head}
 use Rattle.gdb_format.specs.Lines.{mayFollow, registerSize}
 use Rattle.gdb_format.specs.Settings.{orderOf, baseOf, settingsOf}
 use Rattle.gdb_format.specs.SettingsLaws.{Names, settings-name}
-use Rattle.gdb_format.specs.Decode.{registerBlock, memoryBlock, variableBlock, blockOf, block, numbered, frameHead, blocks, frame, ending, frames}
-use Rattle.gdb_format.specs.Decode.{description, openingLines, trace, decode, read}
+use Rattle.gdb_format.specs.Decode.{registerBlock, memoryBlock, variableBlock, blockOf, blockAfter, seenAfter, numbered, frameHead, blocks, frame}
+use Rattle.gdb_format.specs.Decode.{ending, frames, description, openingLines, trace, decode, read}
 use Rattle.gdb_format.specs.ExactFrame.{shorter-frame}
 use Rattle.gdb_format.specs.declared.Settings.{Settings}
 use Rattle.gdb_format.specs.declared.Format.{Format}
 
--- ---- blocks: 8, 9, 10
+-- ---- blocks: 8, 9, 10 and 24
+
+abbrev pub contentNumbers : List ℕ
+contentNumbers = badLetter ∷ blockPastData ∷ noRegisterSize ∷ []
 
 abbrev pub blockNumbers : List ℕ
-blockNumbers = badLetter ∷ blockPastData ∷ noRegisterSize ∷ []
+blockNumbers = contentNumbers ++ secondRegisters ∷ []
 
-register-numbers : (size : Option ℕ) → Refusing (OneOf blockNumbers) (registerBlock size)
+register-numbers : (size : Option ℕ) → Refusing (OneOf contentNumbers) (registerBlock size)
 unfolding registerBlock
 register-numbers none = refusing-refuse tt
 register-numbers (some n) = refusing-then (refusing-bytes n blockPastData tt) (λ b. refusing-give)
 
 module _ (f : Format) where
-  memory-numbers : Refusing (OneOf blockNumbers) (memoryBlock f)
+  memory-numbers : Refusing (OneOf contentNumbers) (memoryBlock f)
   unfolding memoryBlock
   memory-numbers =
       refusing-then (refusing-num (f .order) 8 blockPastData tt) (λ a.
       refusing-then (refusing-num (f .order) 2 blockPastData tt) (λ n.
       refusing-then (refusing-bytes n blockPastData tt) (λ b. refusing-give)))
 
-  variable-numbers : Refusing (OneOf blockNumbers) (variableBlock f)
+  variable-numbers : Refusing (OneOf contentNumbers) (variableBlock f)
   unfolding variableBlock
   variable-numbers =
       refusing-then (refusing-num (f .order) 4 blockPastData tt) (λ n.
       refusing-then (refusing-num (f .order) 8 blockPastData tt) (λ v. refusing-give))
 
-  pub block-numbers : (size : Option ℕ) → Refusing (OneOf blockNumbers) (block f size)
-  unfolding block blockOf
-  block-numbers size =
-      refusing-then (refusing-num Little 1 blockPastData tt) (λ letter.
+  pub content-numbers : (size : Option ℕ) (letter : ℕ) → Refusing (OneOf contentNumbers) (blockOf f size letter)
+  unfolding blockOf
+  content-numbers size letter =
       refusing-cond (eqb letter 0x52) (register-numbers size)
       (refusing-cond (eqb letter 0x4D) memory-numbers
-      (refusing-cond (eqb letter 0x56) variable-numbers (refusing-refuse tt))))
+      (refusing-cond (eqb letter 0x56) variable-numbers (refusing-refuse tt)))
+
+  block-numbers : (size : Option ℕ) (seen : Bool) → Refusing (OneOf blockNumbers) (blockAfter f size seen)
+  unfolding blockAfter
+  block-numbers size seen =
+      refusing-then (refusing-num Little 1 blockPastData tt) (λ letter.
+      refusing-cond (seen && eqb letter 0x52) (refusing-refuse tt) (refusing-in contentNumbers _ (content-numbers size letter)))
 
 -- ---- frames: 6, 7 and 18, and their blocks'
 
@@ -83,7 +92,7 @@ module _ (f : Format) where
 
   pub blocks-numbers : (size : Option ℕ) (d : List ℕ) → Refusing (OneOf blockNumbers) (blocks f size d)
   unfolding blocks
-  blocks-numbers size d = refusing-filling d (block-numbers f size)
+  blocks-numbers size d = refusing-filling seenAfter d (block-numbers f size) false
 
   pub frame-numbers : (size : Option ℕ) → Refusing (OneOf frameNumbers) (frame f size)
   unfolding frame

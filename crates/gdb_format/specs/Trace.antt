@@ -15,6 +15,11 @@ pub data Block : Type 0 where
   memory : ℕ → List ℕ → Block  -- an address, and the bytes from there
   variable : ℕ → ℤ → Block  -- a variable's number and value
 
+abbrev pub isRegisters : Block → Bool
+isRegisters (registers b) = true
+isRegisters (memory a b) = false
+isRegisters (variable n v) = false
+
 pub record Frame : Type 0 where
   pub tracepoint : ℕ
   pub blocks : List Block

@@ -9,7 +9,7 @@ use mathlib.Core.List.{List, [], _∷_, _++_}
 use lib.ListN.{length, length-append}
 use lib.Dec.{ltb, lit≤}
 use borrow.Author.Tests.{lt-ltb, le-ltb, ltb-false}
-use Rattle.refusals.specs.Refusal.{tooLong, last, Listed}
+use Rattle.refusals.specs.Refusal.{tooLong}
 use Rattle.fields.specs.Lists.{concatMap, Each}
 use Rattle.fields.specs.Number.{Bytes}
 use Rattle.fields.specs.Answer.{Answer, accepted, refused, next}
@@ -111,7 +111,8 @@ module _ (b : List ℕ) (h : length b ≤ listingLimit) where
     listed-listable = told little b g m e (λ m. Listable (m .format) b (m .frames) (m .start)) (λ f t r i. listable f b t i h)
 
 -- 196,626 bytes have room for every listing: a frame takes at least 6 bytes of the file, so its line at most 3 for each of them
-refusal-short : (n : ℕ) → n ≤ last → length (text (refused n)) ≤ 196626
+-- a refusal's number has one digit or two
+refusal-short : (n : ℕ) → n < 100 → length (text (refused n)) ≤ 196626
 refusal-short n h = omega (arith, refusal-length n, decimal-long 1 n (omega arith))
 
 rows-short : (f : Format) (b : List ℕ) (t : Trace) → length b ≤ listingLimit → File f b t → length (text (accepted (table f t))) ≤ 196626
@@ -126,7 +127,7 @@ module _ (b : List ℕ) (g : Bytes b) where
   asked-short : length b ≤ listingLimit → (x : Answer (Format × Trace)) → read little b ≡ x
       → length (text (next x (λ r. wholeTable (r .0) (r .1)))) ≤ 196626
   asked-short h (accepted (f, t)) e = rows-short f b t h (file-of little b f t g e)
-  asked-short h (refused n) e = refusal-short n ((refuses-in {P = Listed} fileNumbers (search lit≤) (file-numbers little b)) .only n e .1)
+  asked-short h (refused n) e = refusal-short n ((refuses-in {P = λ k. k < 100} fileNumbers (search lit≤) (file-numbers little b)) .only n e)
 
   pub room-enough : length (text (listed b)) ≤ 196626
   unfolding listed

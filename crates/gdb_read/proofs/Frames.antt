@@ -1,7 +1,7 @@
 -- What a frame's step answers in each case that the code tells apart: first its head, then its blocks.
 -- Assumes nothing.
 use mathlib.Core.Path.{_≡_, refl, sym, ap, _∙_}
-use mathlib.Core.Bool.{cond}
+use mathlib.Core.Bool.{false, cond}
 use mathlib.Core.Option.{Option, none, some}
 use Prim.Native.Nat.{ℕ, _+_, _-_, _<_, _≤_}
 use native.Mathlib.Omega.{arith}
@@ -12,13 +12,13 @@ use borrow.Author.Tests.{eq-eqb, ne-eqb}
 use Rattle.refusals.specs.Refusal.{shortHead, dataPastFile, badMark}
 use Rattle.fields.specs.Lists.{length-part, part-front, part-there, part-lengths}
 use Rattle.fields.specs.Number.{Bytes, number, wordAt, word-in, bytes-drop, bytes-take}
-use Rattle.fields.specs.Answer.{accepted, refused, refused-inv, next, next-inv}
-use Rattle.fields.specs.Reader.{refuse, bytes, stepAt, toEnd}
-use Rattle.fields.specs.Exact.{forth-toEnd}
+use Rattle.fields.specs.Answer.{Answer, accepted, refused, refused-inv, next, next-inv}
+use Rattle.fields.specs.Reader.{refuse, bytes, stepAt, toEndAfter}
+use Rattle.fields.specs.Exact.{forth-after}
 use Rattle.fields.specs.At.{bytes-short, bytes-at, num-short, num-at, step-none, step-fault, step-read, step-end, step-refused, Turn}
 use Rattle.gdb_format.specs.Trace.{Block, Frame, dataOf}
-use Rattle.gdb_format.specs.Decode.{block, blocks, numbered, frameHead, frame}
-use Rattle.gdb_format.specs.ExactBlock.{exact-block, shorter-block}
+use Rattle.gdb_format.specs.Decode.{blockAfter, seenAfter, blocks, numbered, frameHead, frame}
+use Rattle.gdb_format.specs.ExactBlock.{exact-block-after, shorter-block-after}
 use Rattle.gdb_format.specs.FrameBytes.{headBytes, head-long, head-first}
 use Rattle.gdb_format.specs.ExactFrame.{exact-head, takes-head}
 use Rattle.fields.specs.declared.Order.{Order}
@@ -122,16 +122,19 @@ module _ (f : Format) (size : Option ℕ) (s : List ℕ) (at : ℕ) where
         let n : m ≡ at + 6 + length d = omega (arith, part-lengths s at a d (drop m s) laid-out, six, length-drop m s, t .within, t .later) in
         rw (place-is, n) (part-front s (at + 6) (length d) (omega (arith, n, t .within)) ∙ rw six at (part-there s at a d (drop m s) laid-out))
 
-    blocks-there : blocksFill f size (drop (row .place) (take m s)) ≡ blocksFill f size (t .element .1)
-    blocks-there = ap (blocksFill f size) data-there
+    blocks-there : blocksFill f size false (drop (row .place) (take m s)) ≡ blocksFill f size false (t .element .1)
+    blocks-there = ap (blocksFill f size false) data-there
 
-    pub frame-refused : (n : ℕ) → refused n ≡ blocksFill f size (drop (row .place) (take m s)) → refused n ≡ stepAt (frameSeen f) (frame f size) s at
+    abbrev blocksIn : List ℕ → Answer (List Block)
+    blocksIn d = toEndAfter (blockAfter f size) seenAfter false d
+
+    pub frame-refused : (n : ℕ) → refused n ≡ blocksFill f size false (drop (row .place) (take m s)) → refused n ≡ stepAt (frameSeen f) (frame f size) s at
     unfolding frame blocks
     frame-refused n e =
         sym (step-fault (frameSeen f) (frame f size) s at n (omega (arith, t .later, t .within))
-        (rw (t .read, refused-inv n (toEnd (block f size) (t .element .1)) (λ bs. tt {0}) (e ∙ blocks-there))))
+        (rw (t .read, refused-inv n (blocksIn (t .element .1)) (λ bs. tt {0}) (e ∙ blocks-there))))
 
-    frame-read : (bs : List Block) → toEnd (block f size) (t .element .1) ≡ accepted bs
+    frame-read : (bs : List Block) → blocksIn (t .element .1) ≡ accepted bs
         → frame f size (drop at s) ≡ accepted (record { tracepoint = t .element .0; blocks = bs }, drop m s)
     unfolding frame blocks
     frame-read bs e = rw (t .read, e)
@@ -139,10 +142,12 @@ module _ (f : Format) (size : Option ℕ) (s : List ℕ) (at : ℕ) where
     data-bytes : Bytes (t .element .1)
     data-bytes = rw data-there at (bytes-drop (row .place) (take m s) (bytes-take m s b))
 
-    pub frame-sound : accepted tt ≡ blocksFill f size (drop (row .place) (take m s)) → accepted (some (row, m)) ≡ stepAt (frameSeen f) (frame f size) s at
+    pub frame-sound : accepted tt ≡ blocksFill f size false (drop (row .place) (take m s))
+        → accepted (some (row, m)) ≡ stepAt (frameSeen f) (frame f size) s at
     frame-sound e =
-        let q = next-inv (toEnd (block f size) (t .element .1)) (λ bs. accepted (tt {0})) (sym (e ∙ blocks-there)) in
+        let q = next-inv (blocksIn (t .element .1)) (λ bs. accepted (tt {0})) (sym (e ∙ blocks-there)) in
         let r : Frame = record { tracepoint = t .element .0; blocks = q .0 } in
-        let w : dataOf f r ≡ t .element .1 = (forth-toEnd (exact-block f size) (shorter-block f size) (t .element .1) (q .0) data-bytes (q .1)) .1 in
+        let w : dataOf f r ≡ t .element .1 =
+        (forth-after seenAfter (exact-block-after f size) (shorter-block-after f size) false (t .element .1) (q .0) data-bytes (q .1)) .1 in
         sym (step-read (frameSeen f) (frame f size) s at r m (omega (arith, t .later, t .within)) (t .within) (frame-read (q .0) (q .1))
         ∙ ap (λ z. accepted (some (z, m))) (ap (λ d. headSeen at (t .element .0, d)) w ∙ t .shown))

@@ -81,7 +81,7 @@ abbrev pub empty2 : List ℕ
 empty2 = 2 ∷ 0 ∷ 0 ∷ 0 ∷ 0 ∷ 0 ∷ []
 
 -- `R 2`
-abbrev two : List ℕ → List ℕ
+abbrev pub two : List ℕ → List ℕ
 two b = h ++ 0x52 ∷ 0x20 ∷ 0x32 ∷ 0x0A ∷ 0x0A ∷ b
 
 -- `M` at address 2 ^ 64 - 1, bytes 11 22

@@ -18,14 +18,8 @@ use Rattle.gdb_select.specs.declared.Selection.{Selection}
 use Rattle.gdb_join.specs.Join.{joinOf}
 use Rattle.paper_cases.specs.Cases.{Question, frames, memory, variable, cut, Reply, rows, bytes, value, Case, Holds, inSettings, h, bare, empty1, empty2, range}
 
--- the numbers of document 01's table, in its order, and C-11's
-abbrev named : List ℕ
-named =
-    no.tooLong ∷ no.badArgument ∷ no.badHead ∷ no.noEmptyLine ∷ no.badLine ∷ no.shortHead ∷ no.dataPastFile ∷ no.badLetter ∷ no.blockPastData
-    ∷ no.noRegisterSize ∷ no.noRoom ∷ no.notFound ∷ no.openingsDiffer ∷ no.fieldPastFile ∷ no.badConstant ∷ no.badRange ∷ no.rangesOverlap
-    ∷ no.badMark ∷ []
-
-pub numbers : named ≡ 1 ∷ 2 ∷ 3 ∷ 4 ∷ 5 ∷ 6 ∷ 7 ∷ 8 ∷ 9 ∷ 10 ∷ 11 ∷ 12 ∷ 13 ∷ 14 ∷ 15 ∷ 16 ∷ 17 ∷ 18 ∷ []
+-- the numbers of document 01's table, in its order, then C-11's and C-20's
+pub numbers : no.table ≡ 1 ∷ 2 ∷ 3 ∷ 4 ∷ 5 ∷ 6 ∷ 7 ∷ 8 ∷ 9 ∷ 10 ∷ 11 ∷ 12 ∷ 13 ∷ 14 ∷ 15 ∷ 16 ∷ 17 ∷ 18 ∷ 24 ∷ []
 numbers = refl
 
 -- ---- rows

@@ -65,7 +65,7 @@ module _ (s : Settings) (f : Format) (ok : settingsOf s ≡ accepted f) (k : ℕ
         record {
           fits = record {
             lines-fit = (((omega arith, ((λ e. absurd (omega arith)), no-end k), λ e. clash (cc)), tt), omega arith, omega arith);
-            frames-fit = ((omega arith, omega arith, tt, omega arith), tt);
+            frames-fit = ((omega arith, omega arith, tt, omega arith, omega arith), tt);
             length-fits = omega (arith, h, file-length);
           };
           laid-out = refl;
@@ -109,7 +109,7 @@ module _ (s : Settings) (f : Format) (ok : settingsOf s ≡ accepted f) (k : ℕ
       record {
         fits = record {
           lines-fit = (tt, omega arith, omega arith);
-          frames-fit = ((omega arith, omega arith, tt, omega arith), tt);
+          frames-fit = ((omega arith, omega arith, tt, omega arith, omega arith), tt);
           length-fits = omega (arith, length-encode f one, one-long);
         };
         laid-out = refl;

@@ -1,6 +1,7 @@
 -- The numbers returned on refusal, as document 01's table has them, and what the requests of document 02 add to it.
 -- Assumes nothing: these are definitions.
-use Prim.Native.Nat.{ℕ, _≤_}
+use Prim.Native.Nat.{ℕ}
+use mathlib.Core.List.{List, [], _∷_}
 
 -- the longest file, 64 MiB
 abbrev pub limit : ℕ
@@ -78,10 +79,12 @@ rangesOverlap = 17
 abbrev pub badMark : ℕ
 badMark = 18
 
--- the table's last number
-abbrev pub last : ℕ
-last = badMark
+-- a second `R` block in a frame
+abbrev pub secondRegisters : ℕ
+secondRegisters = 24
 
--- a number of the table
-abbrev pub Listed : ℕ → Type 0
-Listed n = (tooLong ≤ n) × (n ≤ last)
+-- the table's numbers, in its order
+abbrev pub table : List ℕ
+table =
+    tooLong ∷ badArgument ∷ badHead ∷ noEmptyLine ∷ badLine ∷ shortHead ∷ dataPastFile ∷ badLetter ∷ blockPastData ∷ noRegisterSize ∷ noRoom ∷ notFound
+    ∷ openingsDiffer ∷ fieldPastFile ∷ badConstant ∷ badRange ∷ rangesOverlap ∷ badMark ∷ secondRegisters ∷ []

@@ -39,3 +39,5 @@ pub const BAD_RANGE: u8 = 16;
 pub const RANGES_OVERLAP: u8 = 17;
 // A bad end mark: two bytes of 0 where a frame head should start, and not exactly four bytes of 0 from them to the file's end.
 pub const BAD_MARK: u8 = 18;
+// A second `R` block in a frame.
+pub const SECOND_REGISTERS: u8 = 24;

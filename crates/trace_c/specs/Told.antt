@@ -2,14 +2,11 @@
 -- Assumes nothing.
 use mathlib.Core.Path.{_≡_, refl, sym, _∙_, subst}
 use Prim.Native.Nat.{ℕ}
-use native.Mathlib.Omega.{arith}
 use mathlib.Core.List.{List}
-use lib.Dec.{lit≤}
-use Rattle.refusals.specs.Refusal.{Listed}
 use Rattle.fields.specs.Lists.{Each}
 use Rattle.fields.specs.Answer.{Answer, accepted, refused}
 use Rattle.fields.specs.Output.{answer}
-use Rattle.fields.specs.Refuses.{Refuses, OneOf, refuses-in}
+use Rattle.fields.specs.Refuses.{Refuses, OneOf, Listed, refuses-in}
 use Rattle.gdb_format.specs.Numbers.{fileNumbers}
 use Rattle.gdb_format.specs.declared.Settings.{Settings}
 use Rattle.gdb_frames.specs.Questions.{asked, frameCount, endMark, frameData, lineAt}
@@ -43,72 +40,72 @@ module _ {A B : Type 0} (flat : Answer A → B) (refusal : B → ℕ) (same : (k
   told ns h {x = refused k} r z =
       let listed : Refuses {A = A} Listed (refused k) = refuses-in ns h r in
       let none : Listed 0 = subst Listed (sym (same k) ∙ z) (listed .only k refl) in
-      absurd (omega (arith, none .0))
+      absurd none
 
 -- ---- questions about a GDB trace
 
 module _ (s : Settings) (b : List ℕ) where
   pub frame-count-told : Told flatCount (λ r. r .refusal) (asked s b frameCount)
   unfolding flatCount
-  frame-count-told = told flatCount (λ r. r .refusal) (λ k. refl) fileNumbers (search lit≤) (frame-count-numbers s b)
+  frame-count-told = told flatCount (λ r. r .refusal) (λ k. refl) fileNumbers _ (frame-count-numbers s b)
 
   pub end-mark-told : Told flatMark (λ r. r .refusal) (asked s b endMark)
   unfolding flatMark
-  end-mark-told = told flatMark (λ r. r .refusal) (λ k. refl) fileNumbers (search lit≤) (end-mark-numbers s b)
+  end-mark-told = told flatMark (λ r. r .refusal) (λ k. refl) fileNumbers _ (end-mark-numbers s b)
 
   pub frame-table-told : (out : List FrameRecord) → Told flatCount (λ r. r .refusal) (answer (asked s b frameTable) out)
   unfolding flatCount
-  frame-table-told out = told flatCount (λ r. r .refusal) (λ k. refl) tableNumbers (search lit≤) (table-numbers s b out)
+  frame-table-told out = told flatCount (λ r. r .refusal) (λ k. refl) tableNumbers _ (table-numbers s b out)
 
   pub line-place-told : (j : ℕ) → Told flatLine (λ r. r .refusal) (asked s b (lineAt j))
   unfolding flatLine
-  line-place-told j = told flatLine (λ r. r .refusal) (λ k. refl) questionNumbers (search lit≤) (line-place-numbers s b j)
+  line-place-told j = told flatLine (λ r. r .refusal) (λ k. refl) questionNumbers _ (line-place-numbers s b j)
 
   pub frame-place-told : (n : ℕ) → Told flatPlace (λ r. r .refusal) (asked s b (frameData n))
   unfolding flatPlace
-  frame-place-told n = told flatPlace (λ r. r .refusal) (λ k. refl) questionNumbers (search lit≤) (frame-place-numbers s b n)
+  frame-place-told n = told flatPlace (λ r. r .refusal) (λ k. refl) questionNumbers _ (frame-place-numbers s b n)
 
   pub block-record-told : (n k : ℕ) → Told flatBlock (λ r. r .refusal) (asked s b (blockAt n k))
   unfolding flatBlock
-  block-record-told n k = told flatBlock (λ r. r .refusal) (λ k. refl) questionNumbers (search lit≤) (block-record-numbers s b n k)
+  block-record-told n k = told flatBlock (λ r. r .refusal) (λ k. refl) questionNumbers _ (block-record-numbers s b n k)
 
   pub registers-place-told : (n : ℕ) → Told flatPlace (λ r. r .refusal) (asked s b (registersAt n))
   unfolding flatPlace
-  registers-place-told n = told flatPlace (λ r. r .refusal) (λ k. refl) questionNumbers (search lit≤) (registers-place-numbers s b n)
+  registers-place-told n = told flatPlace (λ r. r .refusal) (λ k. refl) questionNumbers _ (registers-place-numbers s b n)
 
   pub memory-place-told : (n a : ℕ) → Told flatPlace (λ r. r .refusal) (asked s b (memoryAt n a))
   unfolding flatPlace
-  memory-place-told n a = told flatPlace (λ r. r .refusal) (λ k. refl) questionNumbers (search lit≤) (memory-place-numbers s b n a)
+  memory-place-told n a = told flatPlace (λ r. r .refusal) (λ k. refl) questionNumbers _ (memory-place-numbers s b n a)
 
   pub variable-told : (n v : ℕ) → Told flatValue (λ r. r .refusal) (asked s b (variableAt n v))
   unfolding flatValue
-  variable-told n v = told flatValue (λ r. r .refusal) (λ k. refl) questionNumbers (search lit≤) (variable-numbers s b n v)
+  variable-told n v = told flatValue (λ r. r .refusal) (λ k. refl) questionNumbers _ (variable-numbers s b n v)
 
 -- ---- cut, join and pairs
 
 pub cut-told : (s : Settings) (sel : edit.Selection) (b out : List ℕ) → Told flatLength (λ r. r .refusal) (answer (cutOf s sel b) out)
 unfolding flatLength
-cut-told s sel b out = told flatLength (λ r. r .refusal) (λ k. refl) cutNumbers (search lit≤) (cut-numbers s sel b out)
+cut-told s sel b out = told flatLength (λ r. r .refusal) (λ k. refl) cutNumbers _ (cut-numbers s sel b out)
 
 module _ (s : Settings) (a b : List ℕ) where
   pub join-told : (out : List ℕ) → Told flatLength (λ r. r .refusal) (answer (joinOf s a b) out)
   unfolding flatLength
-  join-told out = told flatLength (λ r. r .refusal) (λ k. refl) joinNumbers (search lit≤) (join-numbers s a b out)
+  join-told out = told flatLength (λ r. r .refusal) (λ k. refl) joinNumbers _ (join-numbers s a b out)
 
   pub pair-place-told : (n : ℕ) → Told flatPair (λ r. r .refusal) (pairPlace s a b n)
   unfolding flatPair
-  pair-place-told n = told flatPair (λ r. r .refusal) (λ k. refl) pairNumbers (search lit≤) (pair-place-numbers s a b n)
+  pair-place-told n = told flatPair (λ r. r .refusal) (λ k. refl) pairNumbers _ (pair-place-numbers s a b n)
 
   pub pair-variable-told : (n v : ℕ) → Told flatValue (λ r. r .refusal) (pairVariable s a b n v)
   unfolding flatValue
-  pair-variable-told n v = told flatValue (λ r. r .refusal) (λ k. refl) pairNumbers (search lit≤) (pair-variable-numbers s a b n v)
+  pair-variable-told n v = told flatValue (λ r. r .refusal) (λ k. refl) pairNumbers _ (pair-variable-numbers s a b n v)
 
 -- ---- trace.dat
 
 pub dat-read-told : (b : List ℕ) → Told flatSummary (λ r. r .refusal) (summed b)
 unfolding flatSummary
-dat-read-told b = told flatSummary (λ r. r .refusal) (λ k. refl) datNumbers (search lit≤) (summary-numbers b)
+dat-read-told b = told flatSummary (λ r. r .refusal) (λ k. refl) datNumbers _ (summary-numbers b)
 
 pub dat-cpu-range-told : (i : ℕ) (b : List ℕ) → Told flatRange (λ r. r .refusal) (cpuRange i b)
 unfolding flatRange
-dat-cpu-range-told i b = told flatRange (λ r. r .refusal) (λ k. refl) rangeNumbers (search lit≤) (cpu-range-numbers i b)
+dat-cpu-range-told i b = told flatRange (λ r. r .refusal) (λ k. refl) rangeNumbers _ (cpu-range-numbers i b)

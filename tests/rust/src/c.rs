@@ -1,7 +1,7 @@
 //! The C interface, as `include/tufakpeni.h` declares it.
 
 /// The number of the interface.
-pub const INTERFACE: u64 = 3;
+pub const INTERFACE: u64 = 4;
 
 pub const LINE_OTHER: u8 = 0;
 pub const LINE_R: u8 = 1;

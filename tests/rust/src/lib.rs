@@ -4,6 +4,7 @@
 pub mod answers;
 pub mod c;
 pub mod compare;
+pub mod letters;
 pub mod library;
 pub mod make;
 pub mod reader;

@@ -8,7 +8,7 @@ use std::{env, fs, process};
 /// The gate's seed; any other is given as TUFAKPENI_SEED.
 const SEED: u64 = 20_261_115;
 /// How many files of both formats are made at random in the gate; any other number is given as TUFAKPENI_FILES.
-const FILES: usize = 200_000;
+const FILES: usize = 240_000;
 /// A longer file is saved and not printed.
 const MOST_PRINTED: usize = 2_048;
 

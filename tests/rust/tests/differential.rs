@@ -55,9 +55,12 @@ fn gdb_traces() {
     every_number_as_a_setting(&mut traces);
     longest_traces(&mut traces);
     // What chance makes has to meet everything by itself, but for the length limit.
-    let refusals = (2..=13).chain([18]).map(Met::Refusal);
+    let refusals = (2..=13).chain([18, 24]).map(Met::Refusal);
     let met = refusals.chain([false, true].map(Met::Marked)).chain(Met::joins()).chain(Based::ALL.map(Met::Based));
-    let mut least: Vec<_> = met.map(|met| (met, traces.tally.met(met) + wanted / 100)).collect();
+    let met = met.map(|met| (met, wanted / 100));
+    // These are counted apart for each byte order and base.
+    let met = met.chain(Met::all_registers().map(|met| (met, wanted / 400)));
+    let mut least: Vec<_> = met.map(|(met, files)| (met, traces.tally.met(met) + files)).collect();
     least.push((Met::Refusal(1), 16));
     for index in 0..wanted {
         traces.random = Random::of(seed, index);
@@ -76,6 +79,13 @@ fn small_trace(settings: Settings, marked: bool) -> Trace {
     Trace { settings, lines: vec![b"R 02".to_vec(), b"status 0".to_vec()], register_size: Some(2), frames, marked }
 }
 
+/// A trace with one register block in its first frame and two in its second, and something between them.
+fn second_registers(settings: Settings) -> Trace {
+    let [block, memory] = [b"R\x07".to_vec(), memory_at(settings.order, 0, b"")];
+    let frames = vec![Frame::of(vec![block.clone()]), Frame::of(vec![block.clone(), memory, block])];
+    Trace { lines: vec![b"R 1".to_vec()], register_size: Some(1), frames, ..Trace::bare(settings) }
+}
+
 fn every_front_and_byte_of_traces(traces: &mut Traces) {
     for index in 0..SHORTENED {
         let settings = Settings { order: (index % 2) as u8, base: [10, 16][index / 2 % 2] };
@@ -92,6 +102,13 @@ fn every_front_and_byte_of_traces(traces: &mut Traces) {
         let partner = small_trace(settings, marked == (order == 0)).bytes();
         for made in damage::every_byte(&bytes) {
             traces.compare_alone(settings, made, &partner);
+        }
+    }
+    for settings in [Settings { order: 0, base: 16 }, Settings { order: 1, base: 10 }] {
+        let trace = second_registers(settings);
+        let (bytes, opening) = (trace.bytes(), trace.opening());
+        for made in damage::every_front(&bytes).chain(damage::every_byte(&bytes)) {
+            traces.compare_alone(settings, made, &opening);
         }
     }
 }

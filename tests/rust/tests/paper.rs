@@ -1,8 +1,8 @@
-//! Document 01's own cases, "Both sides of each edge", those of requests C-11 and C-18, and those of docs/DECISIONS.md, "How
-//! the papers are read", with values written out here.
+//! Document 01's own cases, "Both sides of each edge", those of requests C-11, C-18 and C-20, and those of docs/DECISIONS.md,
+//! "How the papers are read", with values written out here.
 //! The second reader is held to them first, then the library.
 
-use tufakpeni_tests::answers::SECOND;
+use tufakpeni_tests::answers::{Answer, SECOND};
 use tufakpeni_tests::c::{
     Block, Count, CpuRange, Frame, Length, Line, Mark, PairPart, Part, Place, Range, Selection, Settings, Value,
     ENDING_FLYRECORD, ENDING_LATENCY, LINE_OTHER, LINE_R, LINE_STATUS, LINE_TDESC, LINE_TP, LINE_TSV,
@@ -14,6 +14,8 @@ use tufakpeni_tests::second::MAX_LENGTH;
 
 #[path = "paper/base.rs"]
 mod base;
+#[path = "paper/registers.rs"]
+mod registers;
 
 /// Both byte orders in the default base, and the base that the paper's cases at 65,535 and 65,536 state.
 const LITTLE: Settings = Settings { order: 0, base: 16 };
@@ -34,6 +36,25 @@ fn trace(rest: &[u8]) -> Vec<u8> {
 /// The refusal of a trace, 0 where it is accepted.
 fn refusal(reader: &Reader, settings: Settings, rest: &[u8]) -> u8 {
     (reader.frame_count)(settings, &trace(rest)).refusal
+}
+
+/// This refusal and nothing else from every call about a trace, with every output as it was.
+fn every_call_refuses(reader: &Reader, settings: Settings, file: &[u8], refusal: u8) {
+    let (mut records, mut out) = ([[7; 3]; 2], [0xEE; 64]);
+    assert_eq!((reader.frame_count)(settings, file), Answer::refused(refusal));
+    assert_eq!((reader.end_mark)(settings, file), Answer::refused(refusal));
+    assert_eq!((reader.frame_table)(settings, file, &mut records), Answer::refused(refusal));
+    assert_eq!((reader.line_place)(settings, file, 0), Answer::refused(refusal));
+    assert_eq!((reader.frame_place)(settings, file, 0), Answer::refused(refusal));
+    assert_eq!((reader.block_record)(settings, file, 0, 0), Answer::refused(refusal));
+    assert_eq!((reader.registers_place)(settings, file, 0), Answer::refused(refusal));
+    assert_eq!((reader.memory_place)(settings, file, 0, 0), Answer::refused(refusal));
+    assert_eq!((reader.variable)(settings, file, 0, 0), Answer::refused(refusal));
+    assert_eq!((reader.cut)(settings, file, Selection::default(), &mut out), Answer::refused(refusal));
+    assert_eq!((reader.join)(settings, file, file, &mut out), Answer::refused(refusal));
+    assert_eq!((reader.pair_place)(settings, file, file, 0), Answer::refused(refusal));
+    assert_eq!((reader.pair_variable)(settings, file, file, 0, 0), Answer::refused(refusal));
+    assert_eq!((records, out), ([[7; 3]; 2], [0xEE; 64]));
 }
 
 /// A little-endian trace.dat header with empty sections as far as the CPU count, for a page size of 4,096.
@@ -356,6 +377,7 @@ fn all(reader: &Reader) {
     end_marks(reader);
     marked_edits(reader);
     base::all(reader);
+    registers::all(reader);
     dat_headers(reader);
     dat_ranges(reader);
     longest_files(reader);

@@ -12,9 +12,11 @@ use tufakpeni_tests::second::{Refusal, MAX_LENGTH};
 
 #[path = "slips/base.rs"]
 mod base;
+#[path = "slips/registers.rs"]
+mod registers;
 
 /// By how many made files a slip has to be seen at the latest: far fewer than the gate compares.
-const FILES: usize = 5_000;
+const FILES: usize = 6_000;
 
 fn seen_on_traces(reader: &Reader) -> bool {
     let mut comparer = Comparer::new(reader);
@@ -51,13 +53,12 @@ fn the_second_reader_does_not_differ_from_itself() {
 
 type Slip = (&'static str, Reader);
 
-const QUESTION_SLIPS: [Slip; 13] = [
+const QUESTION_SLIPS: [Slip; 12] = [
     ("order not looked at", Reader { frame_count: little_always, ..SECOND }),
     ("R8 taken as an R line", Reader { frame_count: r8_as_r_line, ..SECOND }),
     ("a missing end before a bad line", Reader { frame_count: end_first, ..SECOND }),
     ("a short block before no R line", Reader { frame_count: short_first, ..SECOND }),
     ("registers by letter", Reader { registers_place: registers_by_letter, ..SECOND }),
-    ("latest registers", Reader { registers_place: latest_registers, ..SECOND }),
     ("latest memory", Reader { memory_place: latest_memory, ..SECOND }),
     ("latest variable", Reader { variable: latest_variable, ..SECOND }),
     ("memory that does not wrap", Reader { memory_place: unwrapped_memory, ..SECOND }),
@@ -141,6 +142,20 @@ fn slips_about_the_base_are_seen() {
         all_seen(slips, seen_on_traces);
     }
     all_seen(&base::DEFAULT_SLIPS, seen_in_defaults);
+}
+
+#[test]
+fn slips_about_second_registers_are_seen() {
+    for slips in [&registers::RULE_SLIPS[..], &registers::ORDER_SLIPS, &registers::FRAME_SLIPS, &registers::CALL_SLIPS]
+    {
+        all_seen(slips, seen_on_traces);
+    }
+}
+
+/// The layout's own words, that of a frame's blocks at most one is a register block, over frames taken apart otherwise.
+#[test]
+fn at_most_one_register_block_is_no_slip() {
+    assert!(!seen_on_traces(&registers::AT_MOST_ONE));
 }
 
 #[test]
@@ -282,14 +297,6 @@ fn registers_by_letter(settings: Settings, file: &[u8], n: usize) -> Place {
         let (place, data) = data(settings, file, n)?;
         let letter = data.iter().position(|&byte| byte == b'R')?;
         Some(Place { place: place + letter + 1, ..right })
-    })
-}
-
-fn latest_registers(settings: Settings, file: &[u8], n: usize) -> Place {
-    let right = (SECOND.registers_place)(settings, file, n);
-    instead(right, || {
-        let latest = blocks(settings, file, n).rfind(|block| block.letter == b'R')?;
-        Some(Place { place: latest.place + 1, ..right })
     })
 }
 

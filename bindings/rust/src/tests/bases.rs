@@ -155,7 +155,7 @@ fn edits_and_pairs_read_in_the_base() {
 }
 
 /// Every function that takes settings refuses with this.
-fn all_refuse(settings: Settings, file: &[u8], refusal: Refusal) {
+pub fn all_refuse(settings: Settings, file: &[u8], refusal: Refusal) {
     let (every, bare, out) = (Selection::drop([]), opening(""), &mut [0xEE; 4096]);
     assert_eq!(Trace::open(settings, file).err(), Some(refusal));
     assert_eq!(cut(settings, file, &every, out), Err(refusal));

@@ -4,4 +4,5 @@ mod bytes;
 mod dat;
 mod edit;
 mod refusal;
+mod registers;
 mod trace;

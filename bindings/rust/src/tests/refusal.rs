@@ -4,8 +4,9 @@ use crate::Refusal;
 const PAPER: &str = include_str!("../../../../docs/papers/01-scope.md");
 const REQUESTS: &str = include_str!("../../../../docs/papers/02-change-requests.md");
 
-/// The requests that have landed and add a refusal, each in a line of its own that says `Refusals: number, sentence, …`.
-const LANDED: [&str; 1] = ["**C-11."];
+/// The requests that have landed and add a refusal, each in a line of its own that says `Refusals: number, sentence, …`; and what the
+/// sentence leaves to the request's name.
+const LANDED: [(&str, &str); 2] = [("**C-11.", ""), ("**C-20. Two register blocks in one frame.", " in a frame")];
 
 /// The rows that C-18 widens: number, the request's words, and behind which words of the row it puts which.
 const WIDENED: [(u8, &str, &str, &str); 2] = [
@@ -20,26 +21,26 @@ fn refusals(request: &str) -> &'static str {
 }
 
 /// What a request adds: number and sentence.
-fn added(request: &str) -> (u8, &'static str) {
+fn added((request, more): (&str, &str)) -> (u8, String) {
     let refusals = refusals(request);
     let (number, rest) = refusals.split_once(", ").expect(request);
     let (sentence, _) = rest.split_once(',').expect(request);
-    (number.parse().expect(request), sentence)
+    (number.parse().expect(request), [sentence, more].concat())
 }
 
 /// A row as C-18 has it.
-fn widened((number, sentence): (u8, &str)) -> (u8, String) {
+fn widened((number, sentence): (u8, String)) -> (u8, String) {
     match WIDENED.iter().find(|row| row.0 == number) {
         Some((_, _, words, more)) => (number, sentence.replacen(words, &format!("{words}{more}"), 1)),
-        None => (number, sentence.to_string()),
+        None => (number, sentence),
     }
 }
 
 /// The rows of the table, and then those that are added: number and sentence.
 fn rows() -> Vec<(u8, String)> {
-    let cells = |line: &'static str| -> Option<(u8, &'static str)> {
+    let cells = |line: &str| -> Option<(u8, String)> {
         let (number, sentence) = line.strip_prefix("| ")?.strip_suffix(" |")?.split_once(" | ")?;
-        Some((number.parse().ok()?, sentence))
+        Some((number.parse().ok()?, sentence.to_string()))
     };
     PAPER.lines().filter_map(cells).chain(LANDED.map(added)).map(widened).collect()
 }
@@ -61,8 +62,9 @@ fn a_number_has_its_refusal() {
     for refusal in Refusal::ALL {
         assert_eq!(Refusal::of_number(refusal.number()), Some(refusal));
     }
-    assert_eq!(Refusal::of_number(0), None);
-    assert_eq!(Refusal::of_number(19), None);
+    for number in 0..=u8::MAX {
+        assert_eq!(Refusal::of_number(number).is_some(), matches!(number, 1..=18 | 24), "{number}");
+    }
 }
 
 #[test]

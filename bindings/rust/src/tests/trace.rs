@@ -165,48 +165,48 @@ fn frames_are_parts_of_the_file() {
 #[test]
 fn blocks_carry_what_their_kind_has() {
     for order in ORDERS {
-        let blocks = [
-            registers(b"MV"),
-            memory(order, 258, b"RR"),
-            variable(order, 65536, -2),
-            registers(b"MM"),
-            memory(order, 1, b""),
-        ];
-        let file = trace("R 2\n", &[frame(order, 1, &[]), frame(order, 1, &blocks)]);
+        let blocks = [memory(order, 258, b"RR"), variable(order, 65536, -2), registers(b"MV"), memory(order, 1, b"")];
+        let file = trace("R 2\n", &[frame(order, 1, &[]), frame(order, 1, &blocks), frame(order, 1, &blocks[2..])]);
         let trace = Trace::open(order, &file).unwrap();
         let got: Vec<Block> = trace.blocks(1).unwrap().collect();
         let expected = [
-            Block { place: 25, content: Content::Registers(b"MV") },
-            Block { place: 28, content: Content::Memory { address: 258, bytes: b"RR" } },
-            Block { place: 41, content: Content::Variable { number: 65536, value: -2 } },
-            Block { place: 54, content: Content::Registers(b"MM") },
-            Block { place: 57, content: Content::Memory { address: 1, bytes: b"" } },
+            Block { place: 25, content: Content::Memory { address: 258, bytes: b"RR" } },
+            Block { place: 38, content: Content::Variable { number: 65536, value: -2 } },
+            Block { place: 51, content: Content::Registers(b"MV") },
+            Block { place: 54, content: Content::Memory { address: 1, bytes: b"" } },
         ];
         assert_eq!(got, expected);
         assert_eq!(trace.blocks(0).unwrap().next(), None);
-        let Content::Registers(bytes) = got[3].content else { panic!("{got:?}") };
-        assert!(stands_at(&file, 55, bytes));
+        let Content::Registers(bytes) = got[2].content else { panic!("{got:?}") };
+        assert!(stands_at(&file, 52, bytes));
+        let first = trace.blocks(2).unwrap().next().unwrap();
+        assert_eq!(first, Block { place: 71, content: Content::Registers(b"MV") });
     }
 }
 
 #[test]
-fn registers_are_those_of_the_earliest_block() {
+fn registers_are_those_of_the_frames_own_block() {
     for order in ORDERS {
-        let frames =
-            [frame(order, 1, &[variable(order, 1, 1), registers(b"ab"), registers(b"cd")]), frame(order, 1, &[])];
+        let frames = [
+            frame(order, 1, &[variable(order, 1, 1), registers(b"ab"), memory(order, 1, b"RR")]),
+            frame(order, 1, &[]),
+            frame(order, 1, &[registers(b"cd")]),
+        ];
         let file = trace("tp x\nR 2\n", &frames);
         let trace = Trace::open(order, &file).unwrap();
         assert_eq!(trace.registers(0).unwrap(), b"ab");
         assert!(stands_at(&file, 38, trace.registers(0).unwrap()));
         assert_eq!(trace.registers(1), Err(Refusal::NotFound));
-        assert_eq!(trace.registers(2), Err(Refusal::NotFound));
+        assert_eq!(trace.registers(2).unwrap(), b"cd");
+        assert!(stands_at(&file, file.len() - 2, trace.registers(2).unwrap()));
+        assert_eq!(trace.registers(3), Err(Refusal::NotFound));
     }
 }
 
 #[test]
 fn registers_of_size_0() {
     for order in ORDERS {
-        let file = trace("R 0\n", &[frame(order, 1, &[registers(b""), registers(b"")])]);
+        let file = trace("R 0\n", &[frame(order, 1, &[registers(b""), variable(order, 1, 1)])]);
         let trace = Trace::open(order, &file).unwrap();
         assert!(trace.registers(0).unwrap().is_empty());
         assert!(trace.blocks(0).unwrap().map(|b| b.place).eq([19, 20]));
@@ -247,20 +247,22 @@ fn places_in_file(settings: Settings, file: &[u8], n: usize) -> Vec<usize> {
     (0..).map_while(|k| raw::block_record(settings, file, n, k).ok()).map(|block| block.place).collect()
 }
 
+/// Its register block stands first, among the first few, in the middle and last: some of its pieces have it, and the others not.
 #[test]
 fn a_long_frame_is_read_block_by_block() {
-    for order in ORDERS {
-        let block = |i: u32| match i % 3 {
-            0 => registers(b"MVR"),
-            1 => memory(order, i.into(), &vec![b'M'; i as usize % 70]),
+    for (order, at) in ORDERS.into_iter().flat_map(|order| [0, 7, 8, 200, 399].map(|at| (order, at))) {
+        let block = |i: u32| match i % 2 {
+            _ if i == at => registers(b"MVR"),
+            0 => memory(order, i.into(), &vec![b'R'; i as usize % 70]),
             _ => variable(order, i, -i64::from(i)),
         };
         let blocks: Vec<Vec<u8>> = (0..400).map(block).collect();
-        let file = trace("R 3\n", &[frame(order, 1, &blocks), frame(order, 2, &blocks[..1])]);
+        let file = trace("R 3\n", &[frame(order, 1, &blocks), frame(order, 2, &[registers(b"abc")])]);
         let trace = Trace::open(order, &file).unwrap();
-        let got: Vec<usize> = trace.blocks(0).unwrap().map(|block| block.place).collect();
+        let got: Vec<Block> = trace.blocks(0).unwrap().collect();
         assert_eq!(got.len(), blocks.len());
-        assert_eq!(got, places_in_file(order.into(), &file, 0));
+        assert!(got.iter().map(|block| block.place).eq(places_in_file(order.into(), &file, 0)));
+        assert_eq!(got[at as usize].content, Content::Registers(b"MVR"));
     }
 }
 

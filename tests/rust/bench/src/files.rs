@@ -41,6 +41,8 @@ impl Writer {
 pub enum Frames {
     /// 776 bytes of registers and a variable: 796 bytes with the head.
     Registers,
+    /// Two bytes of registers, then four times a variable, 8 bytes of memory and a variable: 13 blocks in 189 bytes.
+    Small,
     /// Four memory blocks of 16 bytes: 114 bytes.
     Memory,
     /// A variable: 19 bytes.
@@ -49,29 +51,48 @@ pub enum Frames {
 
 /// The address of a frame's last memory block.
 pub const LAST_ADDRESS: u64 = 0x3000;
-const REGISTER_SIZE: usize = 776;
-const MEMORY_SIZE: usize = 16;
 
 impl Frames {
+    /// The size of a register block by the R line.
+    fn register_size(self) -> usize {
+        match self {
+            Frames::Small => 2,
+            _ => 776,
+        }
+    }
+
     fn blocks(self, file: &mut Writer) {
+        let addresses = (0..=LAST_ADDRESS).step_by(0x1000);
         match self {
             Frames::Registers => {
-                file.text(b"R");
-                // Register bytes look like a block's letter, as the rules warn.
-                file.fill(b'M', REGISTER_SIZE);
+                self.registers(file);
                 variable(file);
             }
-            Frames::Memory => {
-                for address in (0..=LAST_ADDRESS).step_by(0x1000) {
-                    file.text(b"M");
-                    file.number(8, address);
-                    file.number(2, MEMORY_SIZE as u64);
-                    file.fill(7, MEMORY_SIZE);
+            Frames::Small => {
+                self.registers(file);
+                for address in addresses {
+                    variable(file);
+                    memory(file, address, 8);
+                    variable(file);
                 }
             }
+            Frames::Memory => addresses.for_each(|address| memory(file, address, 16)),
             Frames::Variable => variable(file),
         }
     }
+
+    fn registers(self, file: &mut Writer) {
+        file.text(b"R");
+        // Register bytes look like a block's letter, as the rules warn.
+        file.fill(b'M', self.register_size());
+    }
+}
+
+fn memory(file: &mut Writer, address: u64, size: usize) {
+    file.text(b"M");
+    file.number(8, address);
+    file.number(2, size as u64);
+    file.fill(7, size);
 }
 
 fn variable(file: &mut Writer) {
@@ -90,7 +111,8 @@ pub fn trace(frames: Frames, marked: bool, big: bool, length: usize) -> Vec<u8> 
     let data = data.bytes;
     let mark = if marked { END_MARK } else { &[] };
     // The registers' size as debuggers write it, in base 16.
-    let opening = format!("\x7fTRACE0\nR {REGISTER_SIZE:x}\nstatus 0;tstop::0\ntp T1:400580:E:0:0\n\n");
+    let size = frames.register_size();
+    let opening = format!("\x7fTRACE0\nR {size:x}\nstatus 0;tstop::0\ntp T1:400580:E:0:0\n\n");
     let mut file = Writer::new(big, opening.as_bytes());
     for number in (1..=NUMBERS).cycle() {
         if file.bytes.len() + 6 + data.len() + mark.len() > length {

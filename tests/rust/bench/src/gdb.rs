@@ -31,7 +31,8 @@ impl Work {
         let file = files::trace(frames, marked, big, LONGEST);
         let joined = files::trace(frames, marked, big, LONGEST / 2);
         let settings = (Side::Plain.reader().default_settings)(u8::from(big));
-        let count = (Side::Plain.reader().frame_count)(settings, &file).count;
+        let counted = (Side::Plain.reader().frame_count)(settings, &file);
+        assert_eq!(counted.refusal, 0, "a file that is read to its end");
         let frame = Frame { tracepoint: 1, data: Part { place: 1, length: 1 } };
         let mut out = vec![1; LONGEST];
         let half = (Side::Plain.reader().cut)(settings, &file, half_of_numbers(), &mut out).length;
@@ -42,8 +43,8 @@ impl Work {
             first: joined,
             out,
             half,
-            records: vec![[1; 3]; count],
-            frames: vec![frame; count],
+            records: vec![[1; 3]; counted.count],
+            frames: vec![frame; counted.count],
         }
     }
 
@@ -186,8 +187,9 @@ fn compare_tables(work: &Work) {
 }
 
 /// Each kind of frame, whether the end mark stands behind them, and the ratio to plain Rust that is not to be passed.
-const FILES: [(&str, Frames, bool, f64); 4] = [
+const FILES: [(&str, Frames, bool, f64); 5] = [
     ("796-byte frames", Frames::Registers, false, 1.05),
+    ("189-byte frames", Frames::Small, false, 1.2),
     ("114-byte frames", Frames::Memory, false, 1.2),
     ("19-byte frames", Frames::Variable, false, 1.2),
     ("19-byte frames, end mark", Frames::Variable, true, 1.2),

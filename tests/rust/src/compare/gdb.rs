@@ -1,7 +1,7 @@
 //! The questions about a GDB trace.
 
 use super::lent::Table;
-use super::{ask, indices, Based, Comparer, Difference, Met};
+use super::{ask, indices, Based, Comparer, Difference, Met, Registers};
 use crate::answers::SECOND;
 use crate::c::{Count, Place, Settings, LINE_R};
 use crate::make::{settings, MadeTrace, Random};
@@ -32,8 +32,11 @@ impl Comparer<'_> {
         let shown = self.trace(random, own, file, partner)?;
         self.settled(trace.made.refusal, shown.count.refusal)?;
         self.pair(random, own, partner, file)?;
-        let other = self.trace(random, settings::other_base(own), file, partner)?;
+        let other_base = settings::other_base(own);
+        let other = self.trace(random, other_base, file, partner)?;
         self.meet_bases(shown, other);
+        self.meet_other_base(own, shown, other);
+        self.meet_other_base(other_base, other, shown);
         let other_order = Settings { order: 1 - own.order, ..settings::right(random) };
         self.trace(random, other_order, file, partner)?;
         if random.one_in(6) {
@@ -61,6 +64,9 @@ impl Comparer<'_> {
     fn questions(&mut self, settings: Settings, file: &[u8]) -> Result<Shown, Difference> {
         let count = ask!(self.frame_count([settings] file []))?;
         self.meet_refusal(settings, count.refusal);
+        for shown in Registers::of_file(settings, file, count.refusal) {
+            self.meet(Met::registers(shown, settings));
+        }
         let mark = ask!(self.end_mark([settings] file []))?;
         if mark.refusal == 0 {
             self.meet(Met::Marked(mark.marked == 1));
@@ -150,6 +156,13 @@ impl Comparer<'_> {
         }
         if other.registers.is_some() && other.registers != own.registers {
             self.meet(Met::Based(Based::BlockUnlike));
+        }
+    }
+
+    /// A trace that has a second register block in a frame only in the base other than this.
+    fn meet_other_base(&mut self, settings: Settings, this: Shown, other: Shown) {
+        if this.registers.is_some() && other.count.refusal == Refusal::SecondRegisters as u8 {
+            self.meet(Met::registers(Registers::OtherBase, settings));
         }
     }
 }

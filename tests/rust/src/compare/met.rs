@@ -1,5 +1,7 @@
 //! What the comparison of a file meets.
 
+use super::Registers;
+use crate::c::Settings;
 use crate::second::Refusal;
 
 /// Something that files are to meet often.
@@ -14,6 +16,12 @@ pub enum Met {
         second: bool,
     },
     Based(Based),
+    /// What a trace shows of register blocks, in one byte order and base.
+    Registers {
+        shown: Registers,
+        big: bool,
+        ten: bool,
+    },
 }
 
 /// What a trace shows of the base in which it is read.
@@ -34,7 +42,7 @@ pub enum Based {
     /// As many digits as base 10, or base 16, takes.
     FullTen,
     FullSixteen,
-    /// Accepted with a register block, and in the other base refused at a block.
+    /// Accepted with a register block, and in the other base refused at a block with 8 or 9.
     BlockRefused,
     /// Accepted in both bases with register blocks of unlike sizes.
     BlockUnlike,
@@ -79,7 +87,7 @@ impl Based {
 
 impl Met {
     /// How many there are.
-    pub const COUNT: usize = Refusal::LAST as usize + 6 + Based::ALL.len();
+    pub const COUNT: usize = Refusal::LAST as usize + 6 + Based::ALL.len() + 4 * Registers::ALL.len();
 
     /// A number of its own below the count.
     pub fn index(self) -> usize {
@@ -89,17 +97,32 @@ impl Met {
             Met::Marked(marked) => last + usize::from(marked),
             Met::Join { first, second } => last + 2 + 2 * usize::from(first) + usize::from(second),
             Met::Based(based) => last + 6 + based as usize,
+            Met::Registers { shown, big, ten } => {
+                last + 6 + Based::ALL.len() + 4 * shown as usize + 2 * usize::from(big) + usize::from(ten)
+            }
         }
+    }
+
+    pub fn registers(shown: Registers, settings: Settings) -> Self {
+        Met::Registers { shown, big: settings.order == 1, ten: settings.base == 10 }
     }
 
     pub fn all() -> impl Iterator<Item = Met> {
         let refusals = (1..=Refusal::LAST).map(Met::Refusal);
-        refusals.chain([false, true].map(Met::Marked)).chain(Met::joins()).chain(Based::ALL.map(Met::Based))
+        let marks = [false, true].map(Met::Marked);
+        refusals.chain(marks).chain(Met::joins()).chain(Based::ALL.map(Met::Based)).chain(Met::all_registers())
     }
 
     /// Joins of all four markings.
     pub fn joins() -> impl Iterator<Item = Met> {
         let markings = [(false, false), (false, true), (true, false), (true, true)];
         markings.into_iter().map(|(first, second)| Met::Join { first, second })
+    }
+
+    /// All that is shown of register blocks, in both byte orders and both bases.
+    pub fn all_registers() -> impl Iterator<Item = Met> {
+        let settings = [(false, false), (false, true), (true, false), (true, true)];
+        let shown = Registers::ALL.into_iter();
+        shown.flat_map(move |shown| settings.map(|(big, ten)| Met::Registers { shown, big, ten }))
     }
 }

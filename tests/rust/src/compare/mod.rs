@@ -5,8 +5,10 @@ mod edit;
 mod gdb;
 mod lent;
 mod met;
+mod registers;
 
 pub use met::{Based, Met};
+pub use registers::Registers;
 
 use crate::answers::Answer;
 use crate::reader::Reader;
@@ -35,7 +37,7 @@ pub struct Comparer<'r> {
     outputs: [Output; 2],
     pub calls: usize,
     /// A bit for each that was met.
-    met: u64,
+    met: u128,
 }
 
 /// Compares one call; the first list of arguments stands before the lent files, the second after them.

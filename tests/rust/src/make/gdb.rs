@@ -23,6 +23,15 @@ impl Frame {
     pub fn data(&self) -> Vec<u8> {
         self.blocks.concat()
     }
+
+    /// Takes its register block away, if it has one.
+    pub fn drop_registers(&mut self) {
+        self.blocks.retain(|block| !is_registers(block));
+    }
+}
+
+fn is_registers(block: &[u8]) -> bool {
+    block.starts_with(b"R")
 }
 
 /// A trace; `register_size` is its R line's number, and `marked` says whether the end mark stands behind the frames.
@@ -192,9 +201,14 @@ fn frames(random: &mut Random, order: u8, register_size: Option<usize>) -> Vec<F
     (0..count).map(|_| frame(random, order, register_size)).collect()
 }
 
+/// A frame of blocks of every kind, of which at most one is a register block.
 pub fn frame(random: &mut Random, order: u8, register_size: Option<usize>) -> Frame {
     let count = random.pick(&[0, 1, 1, 2, 2, 3, 4, 5]);
-    let blocks = (0..count).map(|_| block(random, order, register_size)).collect();
+    let mut blocks: Vec<Vec<u8>> = Vec::new();
+    while blocks.len() < count {
+        let has_registers = blocks.iter().any(|block| is_registers(block));
+        blocks.push(block(random, order, register_size.filter(|_| !has_registers)));
+    }
     Frame { tracepoint: tracepoint(random), blocks, size: None }
 }
 

@@ -31,7 +31,7 @@ pub const EDGES: [Edge; 18] = [
 
 pub(super) const ACCEPTED: Option<u8> = Some(0);
 
-fn refused(refusal: Refusal) -> Option<u8> {
+pub(super) fn refused(refusal: Refusal) -> Option<u8> {
     Some(refusal as u8)
 }
 
@@ -204,6 +204,9 @@ fn cut_block(random: &mut Random, settings: Settings, size: Option<usize>, mut b
     let whole = block.len();
     block.truncate(if random.one_in(3) { whole } else { 1 + random.below(whole) });
     let short = block.len() < whole;
+    if block[0] == b'R' {
+        trace.frames[n].drop_registers();
+    }
     trace.frames[n].blocks.push(block);
     Made::new("short block", trace.bytes(), refused_if(short, Refusal::BlockPastData))
 }
@@ -235,6 +238,7 @@ fn no_register_size(random: &mut Random, settings: Settings) -> Made {
         trace.lines.push(format!("R{size}").into_bytes());
     }
     let block = registers(random, size);
+    trace.frames[n].drop_registers();
     trace.frames[n].blocks.push(block);
     Made::new("no R line", trace.bytes(), refused_if(!has_line, Refusal::NoRegisterSize))
 }
@@ -266,16 +270,17 @@ fn bad_line_before_no_end(random: &mut Random, settings: Settings) -> Made {
     Made::new("bad line, no end", bytes, refused(Refusal::BadLine))
 }
 
-/// Blocks of one address or number several times, and memory that runs on at address 0.
+/// Blocks of one address or number several times beside one register block, and memory that runs on at address 0.
 fn several_blocks_of_a_kind(random: &mut Random, settings: Settings) -> Made {
     let mut trace = Trace::with_frames(random, settings, Some(3));
     for frame in &mut trace.frames {
         let address = random.pick(&[u64::MAX, u64::MAX - 1, 0, 100]);
+        frame.drop_registers();
+        frame.blocks.push(registers(random, 3));
         for _ in 0..3 {
             let length = random.below(5);
             let bytes = random.bytes(length);
             frame.blocks.push(memory_at(settings.order, address.wrapping_sub(random.below(3) as u64), &bytes));
-            frame.blocks.push(registers(random, 3));
             frame.blocks.push(variable(random, settings.order));
         }
         random.shuffle(&mut frame.blocks);

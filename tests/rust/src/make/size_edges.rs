@@ -1,8 +1,8 @@
 //! GDB traces at both sides of each edge of the R line, in each base.
 
-use super::gdb::{registers, Frame, Trace};
+use super::gdb::{memory, registers, variable, Frame, Trace};
 use super::gdb_edges::{any_frame, refused_if, Edge, ACCEPTED};
-use super::{Made, Random};
+use super::{put_at, Made, Random};
 use crate::c::Settings;
 use crate::second::Refusal;
 
@@ -94,25 +94,57 @@ fn unlike_sizes(random: &mut Random, settings: Settings) -> Made {
     let size = if settings.base == 10 { ten } else { sixteen };
     let (mut trace, n) = any_frame(random, settings, Some(size));
     let block = registers(random, size);
+    trace.frames[n].drop_registers();
     trace.frames[n].blocks.insert(0, block);
     Made::new("unlike sizes", trace.bytes(), ACCEPTED)
 }
 
-/// A frame of register blocks that is read in both bases: it has a letter wherever a block of either size starts, and a
-/// length that blocks of either size fill.
-fn both_sizes(random: &mut Random, settings: Settings) -> Made {
-    let (digits, ten, sixteen, length) = random.pick(&[
-        (b"11", 1 + 11, 1 + 0x11, 36),
-        (b"17", 1 + 17, 1 + 0x17, 72),
-        (b"23", 1 + 23, 1 + 0x23, 72),
-        (b"47", 1 + 47, 1 + 0x47, 144),
-    ]);
-    let mut data = random.bytes(length);
-    for place in (0..length).step_by(ten).chain((0..length).step_by(sixteen)) {
-        data[place] = b'R';
+/// A frame that is read in both bases, with a register block of another size in each: the memory block behind the shorter
+/// one has in its bytes the block behind the longer one, and both end together.
+struct BothSizes {
+    /// The R line's digits.
+    digits: &'static [u8; 2],
+    data: Vec<u8>,
+    /// Where the block behind the registers stands in base 10 and in base 16.
+    behind: [usize; 2],
+}
+
+impl BothSizes {
+    fn new(random: &mut Random, order: u8) -> Self {
+        let (digits, ten, sixteen) =
+            random.pick(&[(b"11", 11, 0x11), (b"17", 17, 0x17), (b"23", 23, 0x23), (b"47", 47, 0x47)]);
+        let behind = [1 + ten, 1 + sixteen];
+        let last = if random.one_in(2) { variable(random, order) } else { memory(random, order) };
+        let mut data = registers(random, sixteen);
+        data.extend_from_slice(&last);
+        data[behind[0]] = b'M';
+        // Where this stands in the last block, it is in the middle of its number or address.
+        let length = data.len() - behind[0] - 11;
+        put_at(&mut data, behind[0] + 9, order, 2, length as u64);
+        BothSizes { digits, data, behind }
     }
-    let mut trace = with_size(random, settings, digits);
-    let place = random.below(trace.frames.len() + 1);
-    trace.frames.insert(place, Frame::of(vec![data]));
+
+    /// A trace with such a frame among others, whose blocks are of other kinds.
+    fn trace(self, random: &mut Random, settings: Settings) -> Trace {
+        let mut trace = with_size(random, settings, self.digits);
+        let place = random.below(trace.frames.len() + 1);
+        trace.frames.insert(place, Frame::of(vec![self.data]));
+        trace
+    }
+}
+
+fn both_sizes(random: &mut Random, settings: Settings) -> Made {
+    let trace = BothSizes::new(random, settings.order).trace(random, settings);
     Made::new("both sizes", trace.bytes(), ACCEPTED)
+}
+
+/// The same with a second register block where the block behind the first stands in one base. In the other base the
+/// letter is a byte like any other.
+pub(super) fn second_in_one_base(random: &mut Random, settings: Settings) -> Made {
+    let mut both = BothSizes::new(random, settings.order);
+    let base = random.below(2);
+    both.data[both.behind[base]] = b'R';
+    let trace = both.trace(random, settings);
+    let refusal = refused_if([10, 16][base] == settings.base, Refusal::SecondRegisters);
+    Made::new("second block in one base", trace.bytes(), refusal)
 }

@@ -151,7 +151,7 @@ impl<'a> Trace<'a> {
     fn walk_blocks(&self, frame: Frame) -> Blocks<'a> {
         let end = frame.data.end();
         let rest = &self.file[frame.data.place..end];
-        Blocks { order: self.order, register_size: self.opening.register_size, rest, end }
+        Blocks { order: self.order, register_size: self.opening.register_size, has_registers: false, rest, end }
     }
 
     /// Head and description, with the closing empty line.
@@ -288,15 +288,22 @@ impl Iterator for Frames<'_> {
 struct Blocks<'a> {
     order: Order,
     register_size: Option<u16>,
+    /// Whether a register block of this frame was met.
+    has_registers: bool,
     rest: &'a [u8],
     end: usize,
 }
 
 impl<'a> Blocks<'a> {
     /// The block with this letter, and what follows it.
-    fn step(&self, letter: u8, after: &'a [u8]) -> Result<(BlockKind, &'a [u8]), Refusal> {
+    fn step(&mut self, letter: u8, after: &'a [u8]) -> Result<(BlockKind, &'a [u8]), Refusal> {
         let block = match letter {
-            b'R' => registers(self.register_size.ok_or(Refusal::NoRegisterSize)?, after),
+            // The letter alone makes a second block, whether or not it fits.
+            b'R' if self.has_registers => return Err(Refusal::SecondRegisters),
+            b'R' => {
+                self.has_registers = true;
+                registers(self.register_size.ok_or(Refusal::NoRegisterSize)?, after)
+            }
             b'M' => memory(self.order, after),
             b'V' => variable(self.order, after),
             _ => return Err(Refusal::BadLetter),

@@ -22,9 +22,10 @@ pub enum Refusal {
     BadRange = 16,
     RangesOverlap = 17,
     BadMark = 18,
+    SecondRegisters = 24,
 }
 
 impl Refusal {
     /// The highest number.
-    pub const LAST: u8 = Refusal::BadMark as u8;
+    pub const LAST: u8 = Refusal::SecondRegisters as u8;
 }

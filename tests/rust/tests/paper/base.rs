@@ -1,7 +1,6 @@
 //! The cases of request C-18: the R line in base 16, which is the default, and in base 10.
 
-use super::{bad_line, edited, refusal, says, trace, with_registers, H, LITTLE, LITTLE_TEN};
-use tufakpeni_tests::answers::Answer;
+use super::{bad_line, edited, every_call_refuses, refusal, says, trace, with_registers, H, LITTLE, LITTLE_TEN};
 use tufakpeni_tests::c::{Block, Place, Selection, Settings};
 use tufakpeni_tests::reader::Reader;
 
@@ -110,16 +109,18 @@ fn unlike_sizes(reader: &Reader) {
     }
 }
 
-/// A frame of 36 letters: three blocks of 11 bytes, or two of 17.
+/// A frame of 31 bytes that both bases read to its end: registers of 11 bytes and eight bytes of memory, or registers of
+/// 17 and a variable.
 fn read_in_both_bases(reader: &Reader) {
-    let file = trace(&[b"R 11\n\n\x01\0\x24\0\0\0", &[b'R'; 36][..]].concat());
-    for (settings, size, places) in [(LITTLE_TEN, 11, &[20, 32, 44][..]), (LITTLE, 17, &[20, 38])] {
+    let file = trace(b"R 11\n\n\x01\0\x1F\0\0\0R-----------M\x05\0\0\0\0V\0\0\x08\0\xFE\xFF\xFF\xFF\xFF\xFF\xFF\xFF");
+    let memory = Block { letter: b'M', place: 32, address: 0x5600_0000_0005, length: 8, ..Block::default() };
+    let variable = Block { letter: b'V', place: 38, number: 0x0008_0000, value: -2, ..Block::default() };
+    for (settings, size, block) in [(LITTLE_TEN, 11, memory), (LITTLE, 17, variable)] {
         assert_eq!((reader.registers_place)(settings, &file, 0), Place { refusal: 0, place: 21, length: size });
-        for (k, &place) in places.iter().enumerate() {
-            let block = Block { letter: b'R', place, ..Block::default() };
-            assert_eq!((reader.block_record)(settings, &file, 0, k), block);
-        }
-        assert_eq!((reader.block_record)(settings, &file, 0, places.len()).refusal, 12);
+        let registers = Block { letter: b'R', place: 20, ..Block::default() };
+        assert_eq!((reader.block_record)(settings, &file, 0, 0), registers);
+        assert_eq!((reader.block_record)(settings, &file, 0, 1), block);
+        assert_eq!((reader.block_record)(settings, &file, 0, 2).refusal, 12);
     }
 }
 
@@ -128,30 +129,11 @@ fn wrong_bases(reader: &Reader) {
     for base in [0, 1, 2, 8, 9, 11, 15, 17, 26, 160, 255] {
         for order in [0, 1, 2] {
             for rest in [&b"\n"[..], b"R 2\n\n\x01\0\x03\0\0\0R\xAA\xBB", b"R x\n\n", b""] {
-                every_call_refuses(reader, Settings { order, base }, &trace(rest));
+                every_call_refuses(reader, Settings { order, base }, &trace(rest), 2);
             }
-            every_call_refuses(reader, Settings { order, base }, &H[1..]);
+            every_call_refuses(reader, Settings { order, base }, &H[1..], 2);
         }
     }
-}
-
-/// 2 and nothing else, with every output as it was.
-fn every_call_refuses(reader: &Reader, settings: Settings, file: &[u8]) {
-    let (mut records, mut out) = ([[7; 3]; 2], [0xEE; 64]);
-    assert_eq!((reader.frame_count)(settings, file), Answer::refused(2));
-    assert_eq!((reader.end_mark)(settings, file), Answer::refused(2));
-    assert_eq!((reader.frame_table)(settings, file, &mut records), Answer::refused(2));
-    assert_eq!((reader.line_place)(settings, file, 0), Answer::refused(2));
-    assert_eq!((reader.frame_place)(settings, file, 0), Answer::refused(2));
-    assert_eq!((reader.block_record)(settings, file, 0, 0), Answer::refused(2));
-    assert_eq!((reader.registers_place)(settings, file, 0), Answer::refused(2));
-    assert_eq!((reader.memory_place)(settings, file, 0, 0), Answer::refused(2));
-    assert_eq!((reader.variable)(settings, file, 0, 0), Answer::refused(2));
-    assert_eq!((reader.cut)(settings, file, Selection::default(), &mut out), Answer::refused(2));
-    assert_eq!((reader.join)(settings, file, file, &mut out), Answer::refused(2));
-    assert_eq!((reader.pair_place)(settings, file, file, 0), Answer::refused(2));
-    assert_eq!((reader.pair_variable)(settings, file, file, 0, 0), Answer::refused(2));
-    assert_eq!((records, out), ([[7; 3]; 2], [0xEE; 64]));
 }
 
 /// Both traces are read with the same settings. A number that is spelled otherwise makes another opening.
