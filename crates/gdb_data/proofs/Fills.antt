@@ -2,7 +2,6 @@
 -- Assumes nothing.
 use mathlib.Core.Path.{_≡_, refl, sym, ap, _∙_}
 use mathlib.Core.Bool.{Bool, true, false, cond, _&&_, _||_, and-false, or-false}
-use mathlib.Core.Logic.{_⊎_, inl, inr}
 use mathlib.Core.Option.{Option}
 use Prim.Native.Nat.{ℕ, _+_, _<_, _≤_}
 use native.Mathlib.Omega.{arith}
@@ -13,17 +12,17 @@ use lib.IntN.{ℤ}
 use borrow.Author.Tests.{ne-eqb}
 use Rattle.refusals.specs.Refusal.{secondRegisters}
 use Rattle.fields.specs.Answer.{Answer, accepted, refused, next}
-use Rattle.fields.specs.Reader.{toEndAfter}
+use Rattle.fields.specs.Reader.{toEndAfter, passAt}
 use Rattle.fields.specs.Takes.{after-nil, after-step}
 use Rattle.gdb_format.specs.Trace.{Block, isRegisters}
 use Rattle.gdb_format.specs.Trace as trace
-use Rattle.gdb_format.specs.Decode.{blockOf, blockAfter, seenAfter}
+use Rattle.gdb_format.specs.Decode.{registerBlock, blockOf, blockAfter, seenAfter}
 use Rattle.gdb_format.specs.ExactBlock.{shorter-block-after, letter-read}
 use Rattle.gdb_format.specs.declared.Format.{Format}
-use Rattle.gdb_data.specs.Blocks.{Carried, registers, memory, variable, carriedBy, kindAt, blocksFill}
+use Rattle.gdb_data.specs.Blocks.{Carried, registers, memory, variable, carriedBy, kindAt, endMeaning, blocksFill}
 use Rattle.gdb_data.specs.declared.ContentEnd.{ContentEnd}
 use Rattle.gdb_data.specs.declared.ContentEnd.the-variants as contentend
-use Rattle.gdb_data.proofs.BlockLaws.{Ended, carries, content-refused, content-took}
+use Rattle.gdb_data.proofs.BlockLaws.{ContentAt, is-registers, Ended, carries, content-refused, content-took}
 
 fill-more : (x : Answer (List Block)) (b : Block) → next (next x (λ l. accepted (b ∷ l))) (λ l. accepted (tt {0})) ≡ next x (λ l. accepted (tt {0}))
 fill-more (accepted l) b = refl
@@ -53,14 +52,6 @@ of-letter f d at = by (eqb (getD d at 0) 82) (eqb (getD d at 0) 77) _ _ _ _
 
 -- ---- the blocks from `at` on
 
--- what was seen with the letter x, by the code's tests: `R` where none was seen before, or another letter
-abbrev pub FirstOrOther : Bool → Bool → ℕ → Type 0
-FirstOrOther seen now x = ((x ≡ 82) × (seen ≡ false) × (now ≡ true)) ⊎ ((x ≡ 82 → ⊥) × (now ≡ seen))
-
-pub first-or-other : (seen now : Bool) (x : ℕ) → FirstOrOther seen now x → (false ≡ seen && eqb x 82) × (now ≡ seen || eqb x 82)
-first-or-other seen now x (inl h) = rw (h .0, h .1, h .2) (refl, refl)
-first-or-other seen now x (inr h) = rw (ne-eqb x 82 (h .0), h .1) (sym (and-false seen), sym (or-false seen))
-
 -- a block stands there, which is no second register block
 pub record Met (f : Format) (size : Option ℕ) (seen : Bool) (d : List ℕ) (at : ℕ) (r : ContentEnd) : Type 0 where
   pub ended : Ended f size d at r
@@ -77,8 +68,10 @@ module _ (f : Format) (size : Option ℕ) (seen : Bool) (d : List ℕ) (at : ℕ
       next (toEndAfter (blockAfter f size) seenAfter (seenAfter seen (r .0)) (r .1)) (λ l. accepted (r .0 ∷ l)))
   fill-step h = after-step (blockAfter f size) seenAfter (shorter-block-after f size) seen (drop at d) (omega (arith, length-drop at d))
 
-  pub fill-second : at < length d → true ≡ seen && eqb (getD d at 0) 82 → refused secondRegisters ≡ blocksFill f size seen (drop at d)
-  fill-second h e = rw (fill-step h, letter-read f size seen d at h, ← e)
+  pub fill-second : at < length d → getD d at 0 ≡ 82 → seen ≡ true → refused secondRegisters ≡ blocksFill f size seen (drop at d)
+  fill-second h e n =
+      let second : seen && eqb (getD d at 0) 82 ≡ true = rw (n, e) in
+      rw (fill-step h, letter-read f size seen d at h, second)
 
 module _ {f : Format} {size : Option ℕ} {seen : Bool} {d : List ℕ} {at : ℕ} {r : ContentEnd} (h : Met f size seen d at r) where
   only-content : blockAfter f size seen (drop at d) ≡ blockOf f size (getD d at 0) (drop (at + 1) d)
@@ -96,3 +89,25 @@ module _ {f : Format} {size : Option ℕ} {seen : Bool} {d : List ℕ} {at : ℕ
       let is : isRegisters c ≡ eqb (getD d at 0) 82 = of-block c ∙ ap carriesRegisters (carries (h .ended) c (drop m d) (t .reads)) ∙ of-letter f d at in
       let rest = toEndAfter (blockAfter f size) seenAfter (seen || eqb (getD d at 0) 82) (drop m d) in
       (omega (arith, t .behind), t .inside, rw i (sym (rw (fill-step f size seen d at (h .ended .inside), only-content, t .reads, is) (fill-more rest c))))
+
+-- ---- a block by its letter
+
+-- another block than one of registers, whatever was seen before it
+pub other-met : {f : Format} {size : Option ℕ} {d : List ℕ} {at : ℕ} {r : ContentEnd} → Ended f size d at r → (getD d at 0 ≡ 82 → ⊥)
+    → (seen : Bool) → Met f size seen d at r
+other-met h o seen = record { ended = h; no-second = rw (ne-eqb _ 82 o) (sym (and-false seen)) }
+
+pub other-turn : {f : Format} {size : Option ℕ} {d : List ℕ} {at : ℕ} {r : ContentEnd} → Ended f size d at r → (getD d at 0 ≡ 82 → ⊥)
+    → {m : ℕ} → r ≡ contentend.At m
+    → (at < m) × (m ≤ length d) × ((seen : Bool) → blocksFill f size seen (drop m d) ≡ blocksFill f size seen (drop at d))
+other-turn {d} {at} h o e =
+    let same : (seen : Bool) → seen ≡ seen || eqb (getD d at 0) 82 = λ seen. rw (ne-eqb (getD d at 0) 82 o) (sym (or-false seen)) in
+    let t = fill-turn (other-met h o false) e (same false) in
+    (t .0, t .1, λ seen. fill-turn (other-met h o seen) e (same seen) .2)
+
+-- the frame's first register block
+pub first-met : {f : Format} {size : Option ℕ} {seen : Bool} {d : List ℕ} {at : ℕ} {r : ContentEnd} → at < length d → getD d at 0 ≡ 82 → seen ≡ false
+    → endMeaning r ≡ passAt (registerBlock size) d (at + 1) → Met f size seen d at r
+first-met {f} {size} {seen} {d} {at} h e n g =
+    let here : ContentAt f size (getD d at 0) d (at + 1) = record { within = omega (arith, h) } in
+    record { ended = record { inside = h; answers = is-registers here e g }; no-second = rw n }

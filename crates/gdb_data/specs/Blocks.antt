@@ -1,10 +1,11 @@
 -- What the steps over a frame's blocks answer, in the paper's terms.
 -- Assumes nothing: these are definitions.
+use mathlib.Core.Path.{_≡_}
 use mathlib.Core.Bool.{Bool, cond}
 use mathlib.Core.Option.{Option, none, some}
-use Prim.Native.Nat.{ℕ, _+_}
+use Prim.Native.Nat.{ℕ, _+_, _<_, _≤_}
 use mathlib.Core.List.{List}
-use lib.ListN.{length, getD}
+use lib.ListN.{length, drop, getD}
 use lib.Dec.{eqb}
 use lib.IntN.{ℤ}
 use Rattle.fields.specs.Number.{wordAt}
@@ -73,3 +74,10 @@ verdictMeaning (verdict.Refused n) = refused n
 -- blocks fill the data exactly, where `seen` tells whether a register block stands before them
 abbrev pub blocksFill : Format → Option ℕ → Bool → List ℕ → Answer (Unit {0})
 blocksFill f size seen d = next (toEndAfter (blockAfter f size) seenAfter seen d) (λ bs. accepted tt)
+
+-- blocks that are no register blocks, from `from` on: what is behind them is filled just where the whole is, and it begins with the letter `R`,
+-- if it is anything; or what their refusal is
+abbrev pub Passes : Format → Option ℕ → List ℕ → ℕ → ContentEnd → Type 0
+Passes f size d from (contentend.At m) =
+    ((seen : Bool) → blocksFill f size seen (drop m d) ≡ blocksFill f size seen (drop from d)) × (from ≤ m) × (m < length d → getD d m 0 ≡ 0x52)
+Passes f size d from (contentend.Refused n) = (seen : Bool) → refused n ≡ blocksFill f size seen (drop from d)

@@ -7,7 +7,7 @@ ghost use Rattle.refusals.specs.Refusal.{blockPastData};
 ghost use Rattle.fields.specs.Reader.{bytes, stepAt, passAt};
 ghost use Rattle.gdb_format.specs.Opening.{sizeMeaning};
 ghost use Rattle.gdb_format.specs.Decode.{registerBlock, memoryBlock, blockOf, block};
-ghost use Rattle.gdb_data.specs.Blocks.{kindMeaning, kindAt, blockStepMeaning, blockSeen, endMeaning, verdictMeaning, blocksFill};
+ghost use Rattle.gdb_data.specs.Blocks.{kindMeaning, kindAt, blockStepMeaning, blockSeen, endMeaning, verdictMeaning, blocksFill, Passes};
 use gdb_format::Format;
 use gdb_format::RegisterSize;
 use refusals::BAD_LETTER;
@@ -146,28 +146,56 @@ pub enum Verdict {
     Refused(u8),
 }
 
-// Whether blocks fill `d` from `from` on exactly, at most one of them a register block.
-pub fn blocks_from(format: Format, size: RegisterSize, d: &[u8], from: usize) -> Verdict
-    ensures { λ r. ⌜ verdictMeaning r ≡ blocksFill format (sizeMeaning size) false (drop from (now (d .entry))) ⌝ }
+// Where the blocks from `from` on that are no register blocks end: at the letter of one, or at the end of the data.
+fn others_end(format: Format, size: RegisterSize, d: &[u8], from: usize) -> ContentEnd
+    ensures { λ r. ⌜ Passes format (sizeMeaning size) (now (d .entry)) from r ⌝ }
 {
     let mut at = from;
-    let mut seen = false;
     while at < d.len() {
         let letter = d[at];
         if letter == 82 {
-            if seen {
-                return Verdict::Refused(SECOND_REGISTERS);
-            }
-            seen = true;
+            return ContentEnd::At(at);
         }
         match content_end(format, size, letter, d, at + 1) {
             ContentEnd::Refused(n) => {
-                return Verdict::Refused(n);
+                return ContentEnd::Refused(n);
             }
             ContentEnd::At(next) => {
                 at = next;
             }
         }
     }
-    Verdict::Sound
+    ContentEnd::At(at)
+}
+
+// Whether blocks fill `d` from `from` on exactly, at most one of them a register block.
+pub fn blocks_from(format: Format, size: RegisterSize, d: &[u8], from: usize) -> Verdict
+    ensures { λ r. ⌜ verdictMeaning r ≡ blocksFill format (sizeMeaning size) false (drop from (now (d .entry))) ⌝ }
+{
+    let mut at = from;
+    let mut seen = false;
+    loop {
+        match others_end(format, size, d, at) {
+            ContentEnd::Refused(n) => {
+                return Verdict::Refused(n);
+            }
+            ContentEnd::At(letter) => {
+                if d.len() <= letter {
+                    return Verdict::Sound;
+                }
+                if seen {
+                    return Verdict::Refused(SECOND_REGISTERS);
+                }
+                match registers_end(size, d, letter + 1) {
+                    ContentEnd::Refused(n) => {
+                        return Verdict::Refused(n);
+                    }
+                    ContentEnd::At(next) => {
+                        seen = true;
+                        at = next;
+                    }
+                }
+            }
+        }
+    }
 }

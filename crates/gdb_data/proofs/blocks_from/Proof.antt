@@ -1,14 +1,13 @@
 -- `gdb_data::blocks_from` meets its contract. The loop's invariant: what is left, after what was seen, is filled just where the whole is.
 -- Assumes nothing.
-use mathlib.Core.Path.{_≡_, refl, _∙_}
-use mathlib.Core.Bool.{false, _&&_, _||_}
-use mathlib.Core.Logic.{inl, inr}
-use Prim.Native.Nat.{_-_}
-use lib.ListN.{length, drop, getD}
-use lib.Dec.{eqb}
+use mathlib.Core.Path.{_≡_, refl, sym, _∙_, subst}
+use mathlib.Core.Bool.{true, false, or-true}
+use Prim.Native.Nat.{_-_, _<_, _≤_}
+use lib.ListN.{length, drop}
 use Rattle.gdb_format.specs.Opening.{sizeMeaning}
-use Rattle.gdb_data.specs.Blocks.{blocksFill}
-use Rattle.gdb_data.proofs.Fills.{Met, FirstOrOther, first-or-other, fill-end, fill-second, fill-refused, fill-turn}
+use Rattle.gdb_data.specs.Blocks.{blocksFill, Passes}
+use Rattle.gdb_data.specs.declared.ContentEnd.the-variants as contentend
+use Rattle.gdb_data.proofs.Fills.{Met, first-met, fill-end, fill-second, fill-refused, fill-turn}
 use borrow.Author.Needs.{needs}
 use native.Mathlib.Omega.{arith}
 use Rattle.gdb_data.proofs.blocks_from.Statement.{statement}
@@ -23,25 +22,30 @@ abbrev μ-loop : tie.MeasureT-loop
 abbrev Loop : Type 0
 Loop = tie.At-loop Inv-loop μ-loop
 
-abbrev loop : tie.Joined1 Inv-loop μ-loop → Loop
+abbrev loop : tie.After-letter Inv-loop μ-loop → Loop
 loop c = c .before .before .before
 
--- the letter where the walk stands: it begins no second register block, and what was seen with it
-letter-met : (c : tie.Joined1 Inv-loop μ-loop) → let q = loop c in let x = getD (q .before .before .args .d .now) (q .loop .at) 0 in
-    (false ≡ q .loop .seen && eqb x 82) × (c .if1 .seen ≡ q .loop .seen || eqb x 82)
-letter-met c =
+-- up to the letter that was met
+passed : (c : tie.After-letter Inv-loop μ-loop) → let q = loop c in let a = q .before .before .args in
+    Passes (a .format) (sizeMeaning (a .size)) (a .d .now) (q .loop .at) (contentend.At (c .letter .given .0 .0))
+passed c =
     let q = loop c in
-    let x = getD (q .before .before .args .d .now) (q .loop .at) 0 in
-    first-or-other (q .loop .seen) (c .if1 .seen) x
-    (elim (c .if1 .came) as (λ w. FirstOrOther (q .loop .seen) (c .if1 .seen) x) [
-      | inl w ↦ inl (w .0 .taken, w .1 .left, w .2)
-      | inr w ↦ inr (w .0 .left, w .1)
-    ])
+    let a = q .before .before .args in
+    subst (Passes (a .format) (sizeMeaning (a .size)) (a .d .now) (q .loop .at)) (c .letter .given .1) (c .before .before .others-end .ensures)
 
--- a block there, which is no second register block
-met : (c : tie.After-content-end Inv-loop μ-loop) → let q = loop (c .before) in let a = q .before .before .args in
-    Met (a .format) (sizeMeaning (a .size)) (q .loop .seen) (a .d .now) (q .loop .at) (c .content-end .result)
-met c = record { ended = record { inside = omega arith; answers = c .content-end .ensures }; no-second = letter-met (c .before) .0 }
+-- what is left there
+left : (c : tie.After-letter Inv-loop μ-loop) → let q = loop c in let a = q .before .before .args in
+    blocksFill (a .format) (sizeMeaning (a .size)) (q .loop .seen) (drop (c .letter .given .0 .0) (a .d .now))
+    ≡ blocksFill (a .format) (sizeMeaning (a .size)) false (drop (a .from) (a .d .now))
+left c = let q = loop c in passed c .0 (q .loop .seen) ∙ q .loop .inv
+
+abbrev letter-of : tie.After-registers-end Inv-loop μ-loop → tie.After-letter Inv-loop μ-loop
+letter-of c = c .before .before .before .before
+
+-- the first register block stands there
+met : (c : tie.After-registers-end Inv-loop μ-loop) → let w = letter-of c in let q = loop w in let a = q .before .before .args in
+    Met (a .format) (sizeMeaning (a .size)) (q .loop .seen) (a .d .now) (w .letter .given .0 .0) (c .registers-end .result)
+met c = first-met (omega arith) (passed (letter-of c) .2 (omega arith)) (c .before .if2 .left) (c .registers-end .ensures)
 
 loop-holds : tie.Need-loop-holds Inv-loop μ-loop
 loop-holds c = refl
@@ -49,33 +53,47 @@ loop-holds c = refl
 returns : tie.Need-returns Inv-loop μ-loop
 returns c =
     let q : Loop = search in
+    let o : tie.After-others-end Inv-loop μ-loop = search in
     let a = q .before .before .args in
-    fill-second (a .format) (sizeMeaning (a .size)) (q .loop .seen) (a .d .now) (q .loop .at) (omega arith)
-    (rw (c .if2 .taken, c .before .if1 .taken)) ∙ q .loop .inv
+    subst (Passes (a .format) (sizeMeaning (a .size)) (a .d .now) (q .loop .at)) (c .before .n .given .1) (o .others-end .ensures) (q .loop .seen)
+    ∙ q .loop .inv
 
 returns-2 : tie.Need-returns-2 Inv-loop μ-loop
-returns-2 c = let q : Loop = search in fill-refused (met (search)) (c .before .n .given .1) ∙ q .loop .inv
+returns-2 c =
+    let w : tie.After-letter Inv-loop μ-loop = search in
+    let q = loop w in
+    let a = q .before .before .args in
+    fill-end (a .format) (sizeMeaning (a .size)) (q .loop .seen) (a .d .now) (w .letter .given .0 .0) (omega arith) ∙ left w
 
 returns-3 : tie.Need-returns-3 Inv-loop μ-loop
 returns-3 c =
-    let q : Loop = search in
+    let w : tie.After-letter Inv-loop μ-loop = search in
+    let q = loop w in
     let a = q .before .before .args in
-    fill-end (a .format) (sizeMeaning (a .size)) (q .loop .seen) (a .d .now) (q .loop .at) (omega arith) ∙ q .loop .inv
+    fill-second (a .format) (sizeMeaning (a .size)) (q .loop .seen) (a .d .now) (w .letter .given .0 .0) (omega arith)
+    (passed w .2 (omega arith)) (c .if2 .taken) ∙ left w
 
-loop-less : tie.Need-loop-less Inv-loop μ-loop
-loop-less c =
-    let s : tie.Joined1 Inv-loop μ-loop = search in
-    let t = fill-turn (met (search)) (c .before .next .given .1) (letter-met s .1) in
-    omega arith
+returns-4 : tie.Need-returns-4 Inv-loop μ-loop
+returns-4 c = fill-refused (met (search)) (c .before .n2 .given .1) ∙ left (search)
+
+-- to the block behind it
+turn : (c : tie.After-next Inv-loop μ-loop) → let w = letter-of (c .before .before) in let q = loop w in let a = q .before .before .args in
+    let m = c .next .given .0 .0 in
+    (w .letter .given .0 .0 < m) × (m ≤ length (a .d .now))
+    × (blocksFill (a .format) (sizeMeaning (a .size)) true (drop m (a .d .now))
+    ≡ blocksFill (a .format) (sizeMeaning (a .size)) (q .loop .seen) (drop (w .letter .given .0 .0) (a .d .now)))
+turn c =
+    let w = letter-of (c .before .before) in
+    fill-turn (met (c .before .before)) (c .next .given .1) (rw (passed w .2 (omega arith)) (sym (or-true (loop w .loop .seen))))
 
 loop-again : tie.Need-loop-again Inv-loop μ-loop
-loop-again c =
-    let q : Loop = search in
-    let s : tie.Joined1 Inv-loop μ-loop = search in
-    fill-turn (met (search)) (c .before .next .given .1) (letter-met s .1) .2 ∙ q .loop .inv
+loop-again c = turn (search) .2 ∙ left (search)
+
+loop-less : tie.Need-loop-less Inv-loop μ-loop
+loop-less c = let t = turn (search) in let p = passed (search) in omega (arith, t .0, t .1, p .1)
 
 pub blocks-from-spec : {M : Type 1} → statement M
 blocks-from-spec =
     tie.close
-    (tie.spec Inv-loop μ-loop loop-holds (λ c. search needs) returns (λ c. search needs) (λ c κs. search needs) (λ c. search needs) returns-2
-    (λ c. search needs) loop-less loop-again returns-3)
+    (tie.spec Inv-loop μ-loop loop-holds (λ c κs. search needs) (λ c. search needs) returns (λ c. search needs) returns-2 returns-3 (λ c. search needs)
+    (λ c κs. search needs) (λ c. search needs) returns-4 (λ c. search needs) loop-less loop-again)
