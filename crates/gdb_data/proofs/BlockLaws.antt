@@ -1,7 +1,7 @@
 -- What a block's step answers in each case that the code tells apart.
 -- Assumes nothing.
-use mathlib.Core.Path.{_≡_, sym, ap, _∙_}
-use mathlib.Core.Bool.{Bool, true, false, cond}
+use mathlib.Core.Path.{_≡_, refl, sym, ap, _∙_}
+use mathlib.Core.Bool.{Bool, true, false, cond, _&&_, and-false}
 use mathlib.Core.Option.{Option, none, some}
 use Prim.Native.Nat.{ℕ, _+_, _-_, _<_, _≤_}
 use native.Mathlib.Nat.{lt-of-not-le}
@@ -12,8 +12,8 @@ use mathlib.Core.List.{List}
 use lib.ListN.{length, drop, getD}
 use lib.Dec.{eqb}
 use lib.Seq.{length-take-le}
-use borrow.Author.Tests.{ne-eqb}
-use Rattle.refusals.specs.Refusal.{badLetter, blockPastData, noRegisterSize}
+use borrow.Author.Tests.{ne-eqb, eqb-true, eqb-false}
+use Rattle.refusals.specs.Refusal.{badLetter, blockPastData, noRegisterSize, secondRegisters}
 use Rattle.fields.specs.Number.{wordAt}
 use Rattle.fields.specs.Signed.{signed64}
 use Rattle.fields.specs.Answer.{Answer, accepted, refused, never, accepted-inj, next, next-inv}
@@ -21,21 +21,21 @@ use Rattle.fields.specs.Reader.{Reader, _>>=_, give, refuse, bytes, stepAt, see
 use Rattle.fields.specs.Takes.{bytes-inv}
 use Rattle.fields.specs.At.{bytes-short, bytes-at, nums-short, nums-at, place-of}
 use Rattle.fields.specs.At.{step-fault, step-read}
-use Rattle.fields.specs.Got.{Took, took, not-read, shown-of}
+use Rattle.fields.specs.Got.{took, not-read, shown-of}
 use Rattle.fields.specs.Given.{at-case}
 use Rattle.gdb_format.specs.Trace.{Block}
 use Rattle.gdb_format.specs.Trace as trace
-use Rattle.gdb_format.specs.Decode.{registerBlock, memoryBlock, variableBlock, blockOf, block}
+use Rattle.gdb_format.specs.Decode.{registerBlock, memoryBlock, variableBlock, blockOf, blockAfter, block}
 use Rattle.gdb_format.specs.Opening.{sizeMeaning}
 use Rattle.gdb_format.specs.ExactBlock.{takes-blockOf, letter-read}
 use Rattle.gdb_format.specs.declared.Format.{Format}
 use Rattle.gdb_format.specs.declared.RegisterSize.{RegisterSize}
 use Rattle.gdb_format.specs.declared.RegisterSize.the-variants.{Unknown, Bytes}
-use Rattle.gdb_data.specs.Blocks.{Carried, registers, memory, variable, carriedBy, blockSeen, kindAt, endMeaning}
-use Rattle.gdb_data.specs.declared.ContentEnd.{ContentEnd}
-use Rattle.gdb_data.specs.declared.ContentEnd.the-variants as contentend
+use Rattle.gdb_data.specs.Blocks.{Carried, registers, memory, variable, carriedBy, blockSeen, kindAt, endMeaning, NoOther}
+use Rattle.gdb_data.specs.declared.BlockEnd.{BlockEnd}
+use Rattle.gdb_data.specs.declared.BlockEnd.the-variants as blockend
 
--- where something ends, as `ContentEnd` tells it
+-- where something ends, as `BlockEnd` tells it
 abbrev Ending : Type 0
 Ending = Answer (Unit {0} × ℕ)
 
@@ -65,6 +65,14 @@ module _ (d : List ℕ) (at : ℕ) (h : at ≤ length d) where
   pub bytes-here : (n : ℕ) → n ≤ length d - at → Ends (bytes n blockPastData) (accepted (tt, at + n))
   bytes-here n l = rw (bytes-at d at n blockPastData h l, place-of d (at + n) (omega arith))
 
+  -- n bytes behind k that are there, counted together
+  bytes-with : (k n : ℕ) → k ≤ length d - at → {x : Ending} → Ends (bytes (k + n) blockPastData) x → x ≡ passAt (bytes n blockPastData) d (at + k)
+  bytes-with k n l e =
+      let i : at + (k + n) ≡ at + k + n = omega arith in
+      e ∙ by-cases (decLe (k + n) (length d - at))
+      (λ j. rw (bytes-at d at (k + n) blockPastData h j, bytes-at d (at + k) n blockPastData (omega arith) (omega arith), i))
+      (λ j. rw (bytes-short d at (k + n) blockPastData (lt-of-not-le j), bytes-short d (at + k) n blockPastData (omega arith)))
+
   pub registers-none : {z : RegisterSize} → z ≡ Unknown → Ends (registerBlock (sizeMeaning z)) (refused noRegisterSize)
   unfolding registerBlock
   registers-none e = rw e
@@ -82,15 +90,16 @@ module _ (d : List ℕ) (at : ℕ) (h : at ≤ length d) where
     unfolding memoryBlock
     memory-head = nums-at d at h (f .order) 8 2 blockPastData memoryRest
 
-    pub memory-none : length d - at < 10 → Ends (memoryBlock f) (refused blockPastData)
+    memory-none : length d - at < 10 → Ends (memoryBlock f) (refused blockPastData)
     memory-none l = rw (memory-short l)
 
-    pub memory-body : 10 ≤ length d - at → {n : ℕ} → n ≡ wordAt (f .order) 2 d (at + 8) → {x : Ending}
-        → x ≡ passAt (bytes n blockPastData) d (at + 10) → Ends (memoryBlock f) x
+    -- its bytes counted together with the two numbers
+    memory-body : 10 ≤ length d - at → {n : ℕ} → n ≡ wordAt (f .order) 2 d (at + 8) → {x : Ending}
+        → Ends (bytes (10 + n) blockPastData) x → Ends (memoryBlock f) x
     memory-body l {n} g e =
         let a = wordAt (f .order) 8 d at in
         let m : memoryBlock f (drop at d) ≡ memoryRest a n (drop (at + 10) d) = rw g (memory-head l) in
-        rw m (e ∙ end-of (length d) (bytes n blockPastData (drop (at + 10) d)) (trace.memory a))
+        rw m (bytes-with 10 n l e ∙ end-of (length d) (bytes n blockPastData (drop (at + 10) d)) (trace.memory a))
 
     variable-short : length d - at < 12 → variableBlock f (drop at d) ≡ refused blockPastData
     unfolding variableBlock
@@ -134,42 +143,65 @@ registers-carry (some n) s b rest e =
     let q = next-inv (bytes n blockPastData s) (λ r. accepted (trace.registers (r .0), r .1)) e in
     ap carriedBy (sym ((accepted-inj (q .2)) .0))
 
--- ---- which content a letter leads to
+-- ---- a block by its letter
 
--- the content behind a letter starts at `at`
-pub record ContentAt (f : Format) (size : Option ℕ) (letter : ℕ) (d : List ℕ) (at : ℕ) : Type 0 where
-  pub within : at ≤ length d
-
-module _ {f : Format} {size : Option ℕ} {letter : ℕ} {d : List ℕ} {at : ℕ} (h : ContentAt f size letter d at) where
-  abbrev Content : Ending → Type 0
-  Content x = x ≡ passAt (blockOf f size letter) d at
-
-  pub is-registers : {x : Ending} → letter ≡ 82 → x ≡ passAt (registerBlock size) d at → Content x
-  unfolding blockOf
-  is-registers e g = rw e g
-
-  pub is-memory : {x : Ending} → letter ≡ 77 → x ≡ passAt (memoryBlock f) d at → Content x
-  unfolding blockOf
-  is-memory e g = rw e g
-
-  pub is-variable : {x : Ending} → letter ≡ 86 → x ≡ passAt (bytes 12 blockPastData) d at → Content x
-  unfolding blockOf
-  is-variable e g = rw e (variable-bytes d at (h .within) f g)
-
-  pub is-none : (letter ≡ 82 → ⊥) → (letter ≡ 77 → ⊥) → (letter ≡ 86 → ⊥) → Content (refused badLetter)
-  unfolding blockOf
-  is-none r m v = rw (ne-eqb letter 82 r, ne-eqb letter 77 m, ne-eqb letter 86 v)
-
--- ---- a block: its letter, and where its content ends
-
--- a letter stands at `at`, and r tells where the content behind it ends
-pub record Ended (f : Format) (size : Option ℕ) (d : List ℕ) (at : ℕ) (r : ContentEnd) : Type 0 where
+-- the letter of a block stands at `at`
+pub record LetterAt (f : Format) (d : List ℕ) (at : ℕ) : Type 0 where
   pub inside : at < length d
-  pub answers : endMeaning r ≡ passAt (blockOf f size (getD d at 0)) d (at + 1)
 
-module _ {f : Format} {size : Option ℕ} {d : List ℕ} {at : ℕ} {r : ContentEnd} (h : Ended f size d at r) where
+module _ {f : Format} {d : List ℕ} {at : ℕ} (h : LetterAt f d at) where
+  pub memory-cut : length d - at < 11 → refused blockPastData ≡ passAt (memoryBlock f) d (at + 1)
+  memory-cut l = memory-none d (at + 1) (omega (arith, h .inside)) f (omega (arith, l))
+
+  pub memory-long : 11 ≤ length d - at → {n : ℕ} → n ≡ wordAt (f .order) 2 d (at + 9) → {x : Ending}
+      → x ≡ passAt (bytes (10 + n) blockPastData) d (at + 1) → x ≡ passAt (memoryBlock f) d (at + 1)
+  memory-long l {n} g e =
+      let i : at + 1 + 8 ≡ at + 9 = omega arith in
+      memory-body d (at + 1) (omega (arith, h .inside)) f (omega (arith, l)) {n = n} (rw i g) e
+
+  abbrev Reads : Option ℕ → Bool → Ending → Type 0
+  Reads size seen x = x ≡ passAt (blockAfter f size seen) d at
+
+  pub is-memory : {x : Ending} → getD d at 0 ≡ 77 → x ≡ passAt (memoryBlock f) d (at + 1) → (size : Option ℕ) (seen : Bool) → Reads size seen x
+  unfolding blockOf
+  is-memory e g size seen = rw (letter-read f size seen d at (h .inside), e, and-false seen) g
+
+  pub is-variable : {x : Ending} → getD d at 0 ≡ 86 → x ≡ passAt (bytes 12 blockPastData) d (at + 1) → (size : Option ℕ) (seen : Bool) → Reads size seen x
+  unfolding blockOf
+  is-variable e g size seen = rw (letter-read f size seen d at (h .inside), e, and-false seen) (variable-bytes d (at + 1) (omega (arith, h .inside)) f g)
+
+  module _ (size : Option ℕ) (seen : Bool) where
+    pub is-none : (getD d at 0 ≡ 82 → ⊥) → NoOther d at → Reads size seen (refused badLetter)
+    unfolding blockOf
+    is-none r o =
+        let letter = getD d at 0 in
+        rw (letter-read f size seen d at (h .inside), ne-eqb letter 82 r, ne-eqb letter 77 (o .0), ne-eqb letter 86 (o .1), and-false seen)
+
+    pub is-second : getD d at 0 ≡ 82 → seen ≡ true → Reads size seen (refused secondRegisters)
+    is-second e s = rw (letter-read f size seen d at (h .inside), e, s)
+
+    pub is-first : {x : Ending} → getD d at 0 ≡ 82 → seen ≡ false → x ≡ passAt (registerBlock size) d (at + 1) → Reads size seen x
+    unfolding blockOf
+    is-first e s g = rw (letter-read f size seen d at (h .inside), e, s) g
+
+-- ---- a block that was judged
+
+-- r tells where the block at `at` ends
+pub record Ended (f : Format) (size : Option ℕ) (seen : Bool) (d : List ℕ) (at : ℕ) (r : BlockEnd) : Type 0 where
+  pub inside : at < length d
+  pub answers : endMeaning r ≡ passAt (blockAfter f size seen) d at
+
+-- the block that ends at m
+pub record BlockRead (f : Format) (size : Option ℕ) (seen : Bool) (d : List ℕ) (at m : ℕ) : Type 0 where
+  pub value : Block
+  pub reads : blockAfter f size seen (drop at d) ≡ accepted (value, drop m d)
+  pub later : at < m
+  pub within : m ≤ length d
+  pub carried : carriedBy value ≡ kindAt f d at
+
+module _ {f : Format} {size : Option ℕ} {seen : Bool} {d : List ℕ} {at : ℕ} {r : BlockEnd} (h : Ended f size seen d at r) where
   -- the block that stands there carries what its letter says
-  pub carries : (b : Block) (rest : List ℕ) → blockOf f size (getD d at 0) (drop (at + 1) d) ≡ accepted (b, rest) → carriedBy b ≡ kindAt f d at
+  carries : (b : Block) (rest : List ℕ) → blockOf f size (getD d at 0) (drop (at + 1) d) ≡ accepted (b, rest) → carriedBy b ≡ kindAt f d at
   unfolding blockOf
   carries b rest e = by (eqb (getD d at 0) 0x52) (eqb (getD d at 0) 0x4D) (eqb (getD d at 0) 0x56) e
     where
@@ -192,28 +224,49 @@ module _ {f : Format} {size : Option ℕ} {d : List ℕ} {at : ℕ} {r : Content
       by false false true e = rw (← j) (variable-carries d (at + 1) k f b rest e)
       by false false false e = never e
 
-  pub content-refused : {n : ℕ} → r ≡ contentend.Refused n → blockOf f size (getD d at 0) (drop (at + 1) d) ≡ refused n
-  content-refused {n} e = not-read (λ i a. tt {0}) (blockOf f size (getD d at 0)) d (at + 1) n (at-case endMeaning e (h .answers))
+  pub block-refused : {n : ℕ} → r ≡ blockend.Refused n → blockAfter f size seen (drop at d) ≡ refused n
+  block-refused {n} e = not-read (λ i a. tt {0}) (blockAfter f size seen) d at n (at-case endMeaning e (h .answers))
 
-  pub content-took : {m : ℕ} → r ≡ contentend.At m → Took (blockOf f size (getD d at 0)) d (at + 1) m
-  content-took {m} e =
-      took (blockOf f size (getD d at 0)) d (at + 1) (takes-blockOf f size (getD d at 0)) (omega (arith, h .inside)) m (at-case endMeaning e (h .answers))
+  pub block-read : {m : ℕ} → r ≡ blockend.At m → BlockRead f size seen d at m
+  block-read {m} e = by (seen && eqb (getD d at 0) 0x52) (letter-read f size seen d at (h .inside)) (at-case endMeaning e (h .answers))
+    where
+      by : (second : Bool) → blockAfter f size seen (drop at d) ≡ cond second (refuse secondRegisters) (blockOf f size (getD d at 0)) (drop (at + 1) d)
+          → accepted (tt, m) ≡ passAt (blockAfter f size seen) d at → BlockRead f size seen d at m
+      by true q e = let z : _≡_ {A = Ending} (accepted (tt, m)) (refused secondRegisters) = e ∙ rw q in never (sym z)
+      by false q e =
+          let t = took (blockOf f size (getD d at 0)) d (at + 1) (takes-blockOf f size (getD d at 0)) (omega (arith, h .inside)) m (rw (← q) e) in
+          record {
+            value = t .value;
+            reads = q ∙ t .reads;
+            later = omega (arith, t .behind);
+            within = t .inside;
+            carried = carries (t .value) (drop m d) (t .reads);
+          }
+
+  -- of the letters that are neither `M` nor `V` only `R` begins a block
+  pub registers-read : NoOther d at → {m : ℕ} → r ≡ blockend.At m → getD d at 0 ≡ 82
+  registers-read o {m} e = by (eqb (getD d at 0) 82) refl
+    where
+      letter : LetterAt f d at
+      letter = record { inside = h .inside }
+
+      by : (t : Bool) → eqb (getD d at 0) 82 ≡ t → getD d at 0 ≡ 82
+      by true i = eqb-true (getD d at 0) 82 i
+      by false i = never (is-none letter size seen (eqb-false (getD d at 0) 82 i) o ∙ sym (at-case endMeaning e (h .answers)))
 
 -- ---- a block's record
 
-module _ {f : Format} {size : Option ℕ} {d : List ℕ} {at : ℕ} {r : ContentEnd} (h : Ended f size d at r) where
+module _ {f : Format} {size : Option ℕ} {d : List ℕ} {at : ℕ} {r : BlockEnd} (h : Ended f size false d at r) where
   abbrev Shown : Answer (Option ((ℕ × Carried) × ℕ)) → Type 0
   Shown x = x ≡ stepAt blockSeen (block f size) d at
 
-  alone : block f size (drop at d) ≡ blockOf f size (getD d at 0) (drop (at + 1) d)
+  pub shown-refused : {n : ℕ} → r ≡ blockend.Refused n → Shown (refused n)
   unfolding block
-  alone = letter-read f size false d at (h .inside)
+  shown-refused {n} e = sym (step-fault blockSeen (block f size) d at n (h .inside) (block-refused h e))
 
-  pub shown-refused : {n : ℕ} → r ≡ contentend.Refused n → Shown (refused n)
-  shown-refused {n} e = sym (step-fault blockSeen (block f size) d at n (h .inside) (alone ∙ content-refused h e))
-
-  pub shown-block : {m : ℕ} → r ≡ contentend.At m → {k : Carried} → k ≡ kindAt f d at → Shown (accepted (some ((at, k), m)))
+  pub shown-block : {m : ℕ} → r ≡ blockend.At m → {k : Carried} → k ≡ kindAt f d at → Shown (accepted (some ((at, k), m)))
+  unfolding block
   shown-block {m} e g =
-      let t = content-took h e in
-      ap (λ k. accepted (some ((at, k), m))) (g ∙ sym (carries h (t .value) (drop m d) (t .reads)))
-      ∙ sym (step-read blockSeen (block f size) d at (t .value) m (h .inside) (t .inside) (alone ∙ t .reads))
+      let b = block-read h e in
+      ap (λ k. accepted (some ((at, k), m))) (g ∙ sym (b .carried))
+      ∙ sym (step-read blockSeen (block f size) d at (b .value) m (h .inside) (b .within) (b .reads))

@@ -11,7 +11,7 @@ use lib.IntN.{ℤ}
 use Rattle.fields.specs.Number.{wordAt}
 use Rattle.fields.specs.Signed.{signed64}
 use Rattle.fields.specs.Answer.{Answer, accepted, refused, next}
-use Rattle.fields.specs.Reader.{toEndAfter}
+use Rattle.fields.specs.Reader.{toEndAfter, passAt}
 use Rattle.gdb_format.specs.Trace.{Block}
 use Rattle.gdb_format.specs.Trace as trace
 use Rattle.gdb_format.specs.Decode.{blockAfter, seenAfter}
@@ -21,8 +21,12 @@ use Rattle.gdb_data.specs.declared.BlockKind.the-variants.{Registers, Me
 use Rattle.gdb_data.specs.declared.BlockRecord.{BlockRecord}
 use Rattle.gdb_data.specs.declared.BlockStep.{BlockStep}
 use Rattle.gdb_data.specs.declared.BlockStep.the-variants as step
-use Rattle.gdb_data.specs.declared.ContentEnd.{ContentEnd}
-use Rattle.gdb_data.specs.declared.ContentEnd.the-variants as contentend
+use Rattle.gdb_data.specs.declared.BlockEnd.{BlockEnd}
+use Rattle.gdb_data.specs.declared.BlockEnd.the-variants as blockend
+use Rattle.gdb_data.specs.declared.OtherBlock.{OtherBlock}
+use Rattle.gdb_data.specs.declared.OtherBlock.the-variants as other
+use Rattle.gdb_data.specs.declared.Stop.{Stop}
+use Rattle.gdb_data.specs.declared.Stop.the-variants as stop
 use Rattle.gdb_data.specs.declared.Verdict.{Verdict}
 use Rattle.gdb_data.specs.declared.Verdict.the-variants as verdict
 
@@ -62,10 +66,10 @@ kindAt f d at =
     (cond (eqb (getD d at 0) 0x4D) (memory (wordAt (f .order) 8 d (at + 1)) (wordAt (f .order) 2 d (at + 9)))
     (variable (wordAt (f .order) 4 d (at + 1)) (signed64 (wordAt (f .order) 8 d (at + 5)))))
 
--- of content that is passed over nothing is told but where it ends
-abbrev pub endMeaning : ContentEnd → Answer (Unit {0} × ℕ)
-endMeaning (contentend.At m) = accepted (tt, m)
-endMeaning (contentend.Refused n) = refused n
+-- of a block that is passed over nothing is told but where it ends
+abbrev pub endMeaning : BlockEnd → Answer (Unit {0} × ℕ)
+endMeaning (blockend.At m) = accepted (tt, m)
+endMeaning (blockend.Refused n) = refused n
 
 abbrev pub verdictMeaning : Verdict → Answer (Unit {0})
 verdictMeaning verdict.Sound = accepted tt
@@ -75,9 +79,20 @@ verdictMeaning (verdict.Refused n) = refused n
 abbrev pub blocksFill : Format → Option ℕ → Bool → List ℕ → Answer (Unit {0})
 blocksFill f size seen d = next (toEndAfter (blockAfter f size) seenAfter seen d) (λ bs. accepted tt)
 
--- blocks that are no register blocks, from `from` on: what is behind them is filled just where the whole is, and it begins with the letter `R`,
--- if it is anything; or what their refusal is
-abbrev pub Passes : Format → Option ℕ → List ℕ → ℕ → ContentEnd → Type 0
-Passes f size d from (contentend.At m) =
-    ((seen : Bool) → blocksFill f size seen (drop m d) ≡ blocksFill f size seen (drop from d)) × (from ≤ m) × (m < length d → getD d m 0 ≡ 0x52)
-Passes f size d from (contentend.Refused n) = (seen : Bool) → refused n ≡ blocksFill f size seen (drop from d)
+-- ---- blocks that are no register blocks, whatever the register size is and whatever was seen before them
+
+-- the letter at `at` is neither `M` nor `V`
+abbrev pub NoOther : List ℕ → ℕ → Type 0
+NoOther d at = (getD d at 0 ≡ 0x4D → ⊥) × (getD d at 0 ≡ 0x56 → ⊥)
+
+abbrev pub OtherAt : Format → List ℕ → ℕ → OtherBlock → Type 0
+OtherAt f d at (other.Block r) = (getD d at 0 ≡ 0x52 → ⊥) × ((size : Option ℕ) (seen : Bool) → endMeaning r ≡ passAt (blockAfter f size seen) d at)
+OtherAt f d at other.Neither = NoOther d at
+
+-- a walk over them from `from` on: they fill the data; or what is behind them, from another letter on, is filled just where the whole is; or their refusal
+abbrev pub StopsAt : Format → List ℕ → ℕ → Stop → Type 0
+StopsAt f d from stop.End = (size : Option ℕ) (seen : Bool) → accepted tt ≡ blocksFill f size seen (drop from d)
+StopsAt f d from (stop.Letter at) =
+    (from ≤ at) × (at < length d) × NoOther d at
+    × ((size : Option ℕ) (seen : Bool) → blocksFill f size seen (drop at d) ≡ blocksFill f size seen (drop from d))
+StopsAt f d from (stop.Refused n) = (size : Option ℕ) (seen : Bool) → refused n ≡ blocksFill f size seen (drop from d)

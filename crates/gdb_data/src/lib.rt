@@ -1,13 +1,15 @@
 // The data of a frame: what block stands at a place, and whether blocks fill the data.
 ghost use mathlib.Core.Path.{_≡_};
-ghost use Prim.Native.Nat.{_<_, _≤_};
+ghost use Prim.Native.Nat.{_+_, _<_};
 ghost use mathlib.Core.Bool.{false};
 ghost use lib.ListN.{length, drop};
 ghost use Rattle.refusals.specs.Refusal.{blockPastData};
 ghost use Rattle.fields.specs.Reader.{bytes, stepAt, passAt};
 ghost use Rattle.gdb_format.specs.Opening.{sizeMeaning};
-ghost use Rattle.gdb_format.specs.Decode.{registerBlock, memoryBlock, blockOf, block};
-ghost use Rattle.gdb_data.specs.Blocks.{kindMeaning, kindAt, blockStepMeaning, blockSeen, endMeaning, verdictMeaning, blocksFill, Passes};
+ghost use Rattle.gdb_format.specs.Decode.{memoryBlock, blockAfter, block};
+ghost use Rattle.gdb_format.specs.declared.Format.{Format};
+ghost use Rattle.gdb_data.specs.Blocks.{kindMeaning, kindAt, blockStepMeaning, blockSeen, endMeaning, verdictMeaning, blocksFill};
+ghost use Rattle.gdb_data.specs.Blocks.{NoOther, OtherAt, StopsAt};
 use gdb_format::Format;
 use gdb_format::RegisterSize;
 use refusals::BAD_LETTER;
@@ -41,62 +43,84 @@ pub enum BlockStep {
     Refused(u8),
 }
 
-// Where a block's content ends: the place after it, or a refusal. The walk that checks a file needs no more of it.
-enum ContentEnd {
+// Where a block ends: the place after it, or a refusal. The walk that checks a file needs no more of it.
+enum BlockEnd {
     At(usize),
     Refused(u8),
 }
 
-// n bytes from `at` on.
-fn bytes_end(d: &[u8], at: usize, n: usize) -> ContentEnd
-    requires { ⌜ at ≤ length (now d) ⌝ }
-    ensures { λ r. ⌜ endMeaning r ≡ passAt (bytes n blockPastData) (now (d .entry)) at ⌝ }
+// n bytes behind the letter at `at`.
+fn bytes_end(d: &[u8], at: usize, n: usize) -> BlockEnd
+    requires { ⌜ at < length (now d) ⌝ }
+    ensures { λ r. ⌜ endMeaning r ≡ passAt (bytes n blockPastData) (now (d .entry)) (at + 1) ⌝ }
 {
-    if d.len() - at < n {
-        return ContentEnd::Refused(BLOCK_PAST_DATA);
+    if d.len() - at <= n {
+        return BlockEnd::Refused(BLOCK_PAST_DATA);
     }
-    ContentEnd::At(at + n)
+    BlockEnd::At(at + 1 + n)
 }
 
-// The content of a register block, from `at` on.
-fn registers_end(size: RegisterSize, d: &[u8], at: usize) -> ContentEnd
-    requires { ⌜ at ≤ length (now d) ⌝ }
-    ensures { λ r. ⌜ endMeaning r ≡ passAt (registerBlock (sizeMeaning size)) (now (d .entry)) at ⌝ }
+// The memory block whose letter stands at `at`: behind it address and length, 10 bytes, and as many as the length says.
+fn memory_end(format: Format, d: &[u8], at: usize) -> BlockEnd
+    requires { ⌜ at < length (now d) ⌝ }
+    ensures { λ r. ⌜ endMeaning r ≡ passAt (memoryBlock format) (now (d .entry)) (at + 1) ⌝ }
 {
+    if d.len() - at < 11 {
+        return BlockEnd::Refused(BLOCK_PAST_DATA);
+    }
+    let order = format.order;
+    let length = fields::u16_at(d, order, at + 9) as usize;
+    bytes_end(d, at, 10 + length)
+}
+
+// The block at `at` that is neither memory nor a variable: registers, the first of its frame, or a refusal. Its faults in the order that they are met:
+// 8, 24, 10, 9.
+fn registers_end(size: RegisterSize, seen: bool, d: &[u8], at: usize) -> BlockEnd
+    requires { ⌜ (at < length (now d)) × NoOther (now d) at ⌝ }
+    ensures { λ r. ⌜ ((f : Format) → endMeaning r ≡ passAt (blockAfter f (sizeMeaning size) seen) (now (d .entry)) at) ⌝ }
+{
+    if d[at] != 82 {
+        return BlockEnd::Refused(BAD_LETTER);
+    }
+    if seen {
+        return BlockEnd::Refused(SECOND_REGISTERS);
+    }
     let RegisterSize::Bytes(n) = size else {
-        return ContentEnd::Refused(NO_REGISTER_SIZE);
+        return BlockEnd::Refused(NO_REGISTER_SIZE);
     };
     bytes_end(d, at, n)
 }
 
-// The content of a memory block: address and length, and that many bytes.
-fn memory_end(format: Format, d: &[u8], at: usize) -> ContentEnd
-    requires { ⌜ at ≤ length (now d) ⌝ }
-    ensures { λ r. ⌜ endMeaning r ≡ passAt (memoryBlock format) (now (d .entry)) at ⌝ }
-{
-    if d.len() - at < 10 {
-        return ContentEnd::Refused(BLOCK_PAST_DATA);
-    }
-    let order = format.order;
-    let length = fields::u16_at(d, order, at + 8) as usize;
-    bytes_end(d, at + 10, length)
+// A memory or variable block, by where it ends, or neither.
+enum OtherBlock {
+    Block(BlockEnd),
+    Neither,
 }
 
-// The content behind a block's letter, from `at` on.
-fn content_end(format: Format, size: RegisterSize, letter: u8, d: &[u8], at: usize) -> ContentEnd
-    requires { ⌜ at ≤ length (now d) ⌝ }
-    ensures { λ r. ⌜ endMeaning r ≡ passAt (blockOf format (sizeMeaning size) letter) (now (d .entry)) at ⌝ }
+// Whether a memory or variable block stands at `at`, and where it ends. Neither depends on the registers of its frame.
+fn other_end(format: Format, d: &[u8], at: usize) -> OtherBlock
+    requires { ⌜ at < length (now d) ⌝ }
+    ensures { λ r. ⌜ OtherAt format (now (d .entry)) at r ⌝ }
 {
-    if letter == 82 {
-        return registers_end(size, d, at);
-    }
+    let letter = d[at];
     if letter == 77 {
-        return memory_end(format, d, at);
+        return OtherBlock::Block(memory_end(format, d, at));
     }
     if letter == 86 {
-        return bytes_end(d, at, 12);
+        return OtherBlock::Block(bytes_end(d, at, 12));
     }
-    ContentEnd::Refused(BAD_LETTER)
+    OtherBlock::Neither
+}
+
+// The block at `at`, as the first of its frame.
+fn block_end(format: Format, size: RegisterSize, d: &[u8], at: usize) -> BlockEnd
+    requires { ⌜ at < length (now d) ⌝ }
+    ensures { λ r. ⌜ endMeaning r ≡ passAt (block format (sizeMeaning size)) (now (d .entry)) at ⌝ }
+{
+    match other_end(format, d, at) {
+        OtherBlock::Block(end) => end,
+        OtherBlock::Neither => registers_end(size, false, d, at),
+    }
 }
 
 // The kind of the block whose letter stands at `at`, with what it carries.
@@ -128,9 +152,9 @@ pub fn block_at(format: Format, size: RegisterSize, d: &[u8], at: usize) -> Bloc
     if d.len() <= at {
         return BlockStep::End;
     }
-    match content_end(format, size, d[at], d, at + 1) {
-        ContentEnd::Refused(n) => BlockStep::Refused(n),
-        ContentEnd::At(next) => BlockStep::Block {
+    match block_end(format, size, d, at) {
+        BlockEnd::Refused(n) => BlockStep::Refused(n),
+        BlockEnd::At(next) => BlockStep::Block {
             record: BlockRecord {
                 place: at,
                 kind: kind_at(format, d, at),
@@ -146,26 +170,34 @@ pub enum Verdict {
     Refused(u8),
 }
 
-// Where the blocks from `from` on that are no register blocks end: at the letter of one, or at the end of the data.
-fn others_end(format: Format, size: RegisterSize, d: &[u8], from: usize) -> ContentEnd
-    ensures { λ r. ⌜ Passes format (sizeMeaning size) (now (d .entry)) from r ⌝ }
+// Where a walk over memory and variable blocks stops: the end of the data, the place of another letter, or a refusal.
+enum Stop {
+    End,
+    Letter(usize),
+    Refused(u8),
+}
+
+// Over the memory and variable blocks from `from` on. What was seen of registers is no matter to them, so this loop has no part in it.
+fn others_end(format: Format, d: &[u8], from: usize) -> Stop
+    ensures { λ r. ⌜ StopsAt format (now (d .entry)) from r ⌝ }
 {
     let mut at = from;
     while at < d.len() {
-        let letter = d[at];
-        if letter == 82 {
-            return ContentEnd::At(at);
-        }
-        match content_end(format, size, letter, d, at + 1) {
-            ContentEnd::Refused(n) => {
-                return ContentEnd::Refused(n);
+        match other_end(format, d, at) {
+            OtherBlock::Neither => {
+                return Stop::Letter(at);
             }
-            ContentEnd::At(next) => {
-                at = next;
-            }
+            OtherBlock::Block(end) => match end {
+                BlockEnd::Refused(n) => {
+                    return Stop::Refused(n);
+                }
+                BlockEnd::At(next) => {
+                    at = next;
+                }
+            },
         }
     }
-    ContentEnd::At(at)
+    Stop::End
 }
 
 // Whether blocks fill `d` from `from` on exactly, at most one of them a register block.
@@ -175,27 +207,22 @@ pub fn blocks_from(format: Format, size: RegisterSize, d: &[u8], from: usize) ->
     let mut at = from;
     let mut seen = false;
     loop {
-        match others_end(format, size, d, at) {
-            ContentEnd::Refused(n) => {
+        match others_end(format, d, at) {
+            Stop::End => {
+                return Verdict::Sound;
+            }
+            Stop::Refused(n) => {
                 return Verdict::Refused(n);
             }
-            ContentEnd::At(letter) => {
-                if d.len() <= letter {
-                    return Verdict::Sound;
+            Stop::Letter(place) => match registers_end(size, seen, d, place) {
+                BlockEnd::Refused(n) => {
+                    return Verdict::Refused(n);
                 }
-                if seen {
-                    return Verdict::Refused(SECOND_REGISTERS);
+                BlockEnd::At(next) => {
+                    seen = true;
+                    at = next;
                 }
-                match registers_end(size, d, letter + 1) {
-                    ContentEnd::Refused(n) => {
-                        return Verdict::Refused(n);
-                    }
-                    ContentEnd::At(next) => {
-                        seen = true;
-                        at = next;
-                    }
-                }
-            }
+            },
         }
     }
 }
