@@ -85,6 +85,7 @@ blocksFill f size seen d = next (toEndAfter (blockAfter f size) seenAfter seen d
 abbrev pub NoOther : List ℕ → ℕ → Type 0
 NoOther d at = (getD d at 0 ≡ 0x4D → ⊥) × (getD d at 0 ≡ 0x56 → ⊥)
 
+-- a memory or variable block stands at `at`, and r tells where it ends; or neither does
 abbrev pub OtherAt : Format → List ℕ → ℕ → OtherBlock → Type 0
 OtherAt f d at (other.Block r) = (getD d at 0 ≡ 0x52 → ⊥) × ((size : Option ℕ) (seen : Bool) → endMeaning r ≡ passAt (blockAfter f size seen) d at)
 OtherAt f d at other.Neither = NoOther d at

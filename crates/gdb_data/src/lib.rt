@@ -49,7 +49,7 @@ enum BlockEnd {
     Refused(u8),
 }
 
-// n bytes behind the letter at `at`.
+// n bytes behind the letter at `at`. They are counted from the place that the walk has, so that no sum stands between its tests of the letter.
 fn bytes_end(d: &[u8], at: usize, n: usize) -> BlockEnd
     requires { ⌜ at < length (now d) ⌝ }
     ensures { λ r. ⌜ endMeaning r ≡ passAt (bytes n blockPastData) (now (d .entry)) (at + 1) ⌝ }
@@ -73,8 +73,7 @@ fn memory_end(format: Format, d: &[u8], at: usize) -> BlockEnd
     bytes_end(d, at, 10 + length)
 }
 
-// The block at `at` that is neither memory nor a variable: registers, the first of its frame, or a refusal. Its faults in the order that they are met:
-// 8, 24, 10, 9.
+// The block at `at` that is neither memory nor a variable: the first register block of its frame, or a refusal, in the order 8, 24, 10, 9.
 fn registers_end(size: RegisterSize, seen: bool, d: &[u8], at: usize) -> BlockEnd
     requires { ⌜ (at < length (now d)) × NoOther (now d) at ⌝ }
     ensures { λ r. ⌜ ((f : Format) → endMeaning r ≡ passAt (blockAfter f (sizeMeaning size) seen) (now (d .entry)) at) ⌝ }
@@ -91,13 +90,13 @@ fn registers_end(size: RegisterSize, seen: bool, d: &[u8], at: usize) -> BlockEn
     bytes_end(d, at, n)
 }
 
-// A memory or variable block, by where it ends, or neither.
+// What stands where a memory or variable block may stand: where it ends, or neither of both.
 enum OtherBlock {
     Block(BlockEnd),
     Neither,
 }
 
-// Whether a memory or variable block stands at `at`, and where it ends. Neither depends on the registers of its frame.
+// The memory or variable block at `at`, if one stands there. Registers that were seen before it change nothing of it.
 fn other_end(format: Format, d: &[u8], at: usize) -> OtherBlock
     requires { ⌜ at < length (now d) ⌝ }
     ensures { λ r. ⌜ OtherAt format (now (d .entry)) at r ⌝ }
@@ -177,7 +176,7 @@ enum Stop {
     Refused(u8),
 }
 
-// Over the memory and variable blocks from `from` on. What was seen of registers is no matter to them, so this loop has no part in it.
+// Over the memory and variable blocks from `from` on, with no look at what was seen of registers.
 fn others_end(format: Format, d: &[u8], from: usize) -> Stop
     ensures { λ r. ⌜ StopsAt format (now (d .entry)) from r ⌝ }
 {

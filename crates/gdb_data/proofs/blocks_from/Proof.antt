@@ -32,26 +32,29 @@ told : (c : tie.After-others-end Inv-loop μ-loop) {r : Stop} → c .others-end 
     → let q = loop c in let a = q .before .before .args in StopsAt (a .format) (a .d .now) (q .loop .at) r
 told c e = let q = loop c in let a = q .before .before .args in subst (StopsAt (a .format) (a .d .now) (q .loop .at)) e (c .others-end .ensures)
 
+abbrev asked : tie.After-place Inv-loop μ-loop → tie.After-others-end Inv-loop μ-loop
+asked c = c .before .before
+
 -- up to the letter that was met
-passed : (c : tie.After-place Inv-loop μ-loop) → let q = loop (c .before .before) in let a = q .before .before .args in
+passed : (c : tie.After-place Inv-loop μ-loop) → let q = loop (asked c) in let a = q .before .before .args in
     StopsAt (a .format) (a .d .now) (q .loop .at) (stop.Letter (c .place .given .0 .0))
-passed c = told (c .before .before) (c .place .given .1)
+passed c = told (asked c) (c .place .given .1)
 
 -- what is left there
-left : (c : tie.After-place Inv-loop μ-loop) → let q = loop (c .before .before) in let a = q .before .before .args in
+left : (c : tie.After-place Inv-loop μ-loop) → let q = loop (asked c) in let a = q .before .before .args in
     blocksFill (a .format) (sizeMeaning (a .size)) (q .loop .seen) (drop (c .place .given .0 .0) (a .d .now))
     ≡ blocksFill (a .format) (sizeMeaning (a .size)) false (drop (a .from) (a .d .now))
-left c = let q = loop (c .before .before) in let a = q .before .before .args in passed c .3 (sizeMeaning (a .size)) (q .loop .seen) ∙ q .loop .inv
+left c = let q = loop (asked c) in let a = q .before .before .args in passed c .3 (sizeMeaning (a .size)) (q .loop .seen) ∙ q .loop .inv
 
 abbrev place-of : tie.After-registers-end Inv-loop μ-loop → tie.After-place Inv-loop μ-loop
 place-of c = c .before .before
 
 -- the block there
-ended : (c : tie.After-registers-end Inv-loop μ-loop) → let w = place-of c in let q = loop (w .before .before) in let a = q .before .before .args in
+ended : (c : tie.After-registers-end Inv-loop μ-loop) → let w = place-of c in let q = loop (asked w) in let a = q .before .before .args in
     Ended (a .format) (sizeMeaning (a .size)) (q .loop .seen) (a .d .now) (w .place .given .0 .0) (c .registers-end .result)
 ended c =
     let w = place-of c in
-    let q = loop (w .before .before) in
+    let q = loop (asked w) in
     record { inside = passed w .1; answers = c .registers-end .ensures (q .before .before .args .format) }
 
 loop-holds : tie.Need-loop-holds Inv-loop μ-loop
@@ -73,7 +76,7 @@ returns-3 : tie.Need-returns-3 Inv-loop μ-loop
 returns-3 c = fill-refused (ended (search)) (c .before .n2 .given .1) ∙ left (search)
 
 -- to the block behind it
-turn : (c : tie.After-next Inv-loop μ-loop) → let w = place-of (c .before .before) in let q = loop (w .before .before) in let a = q .before .before .args in
+turn : (c : tie.After-next Inv-loop μ-loop) → let w = place-of (c .before .before) in let q = loop (asked w) in let a = q .before .before .args in
     let m = c .next .given .0 .0 in
     (w .place .given .0 .0 < m) × (m ≤ length (a .d .now))
     × (blocksFill (a .format) (sizeMeaning (a .size)) true (drop m (a .d .now))
