@@ -152,7 +152,7 @@ tfk_place tfk_registers_place(tfk_settings settings, const uint8_t *file, size_t
 /* Memory at an address in frame n: from there to the end of the earliest block that covers it. */
 tfk_place tfk_memory_place(tfk_settings settings, const uint8_t *file, size_t file_length, size_t n, uint64_t address);
 
-/* The value of a variable in frame n: that of the earliest V block with this number. */
+/* The value of a variable in frame n: that of the latest V block with this number. */
 tfk_value tfk_variable(tfk_settings settings, const uint8_t *file, size_t file_length, size_t n, uint32_t number);
 
 /* ---- cut, join and pairs ---- */
@@ -196,7 +196,7 @@ tfk_length tfk_join(tfk_settings settings, const uint8_t *first, size_t first_le
 /* The data of frame n of two traces read as if joined; 1 goes by the length of the join, its end mark counted. */
 tfk_pair_part tfk_pair_place(tfk_settings settings, const uint8_t *first, size_t first_length, const uint8_t *second, size_t second_length, size_t n);
 
-/* The value of a variable in frame n of two traces read as if joined. */
+/* The value of a variable in frame n of two traces read as if joined: that of the frame's latest V block with this number. */
 tfk_value tfk_pair_variable(tfk_settings settings, const uint8_t *first, size_t first_length, const uint8_t *second, size_t second_length, size_t n, uint32_t number);
 
 /* ---- trace.dat, version 6 ---- */

@@ -13,6 +13,7 @@ int main(void)
     tables();
     marks();
     registers();
+    variables();
     limits();
     dats();
     return report();

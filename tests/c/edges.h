@@ -8,6 +8,7 @@ void bases(void);     /* which bases there are, and what an R line says in each 
 void tables(void);    /* the frame table into records that hold a pattern */
 void marks(void);     /* cuts, joins and pairs of traces with the end mark and without */
 void registers(void); /* frames with a second register block, and their neighbours */
+void variables(void); /* which block of a variable counts */
 void limits(void);    /* the longest file and one byte more */
 void dats(void);      /* trace.dat headers */
 

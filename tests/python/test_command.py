@@ -62,6 +62,10 @@ class Command(Case):
     def test_a_trace_that_gdb_saved(self):
         self.shows('gdb-frame-2.txt', 'samples/gdb.tf', '--blocks', '--variables', '--frame', '2')
 
+    def test_the_later_value(self):
+        """A variable that was collected before and after a step."""
+        self.shows('tsv-frame-0.txt', 'tests/real/gdb/tsv.tf', '--blocks', '--variables', '--frame', '0')
+
     def test_base(self):
         """The register size is shown with its base, whether or not there is such a block."""
         for line, words, shown in (('R 308', (), '776 bytes: `R 308` in base 16'),

@@ -163,7 +163,7 @@ class Pairs(Case):
             pair, joined = Pair(first, second, made.order), Trace(join(first, second, made.order), made.order)
             self.assertEqual([bytes(pair.frame(n).data) for n in range(3)], [bytes(frame.data) for frame in joined])
             self.assertEqual([pair.frame(n)[:2] for n in range(3)], [(0, 25), (0, 44), (1, 25)])
-            self.assertEqual([pair.variable(n, 1) for n in (0, 2)], [-1, 5])
+            self.assertEqual([pair.variable(n, 1) for n in (0, 2)], [-1, 6])
             for n, v in ((0, 2), (0, 2 ** 32 + 1), (0, -1), (1, 1), (3, 1), (-1, 1)):
                 self.refused(12, pair.variable, n, v)
             for n in (3, -1, 2 ** 64, 2 ** 64 + 1):

@@ -5,7 +5,7 @@ from unittest import mock
 from build import BARE, BIG, HEAD, LITTLE, MARK
 from cases import Case
 from repository import ROOT
-from tufakpeni import Memory, Registers, Trace, Variable, _library
+from tufakpeni import Memory, Pair, Registers, Trace, Variable, _library
 
 TOP = 2 ** 64 - 1
 BOTH = (LITTLE, BIG)
@@ -216,11 +216,27 @@ class Blocks(Case):
 
     def test_variables(self):
         for made in BOTH:
-            frame, = Trace(made.trace([], made.frame(
-                1, made.variable(1, -1), made.variable(1, 7), made.variable(2 ** 32 - 1, -2 ** 63))), made.order)
+            frame, = Trace(made.trace([], made.frame(1, made.variable(1, -1), made.variable(2 ** 32 - 1, -2 ** 63))),
+                           made.order)
             self.assertEqual([frame.variable(v) for v in (1, 2 ** 32 - 1)], [-1, -2 ** 63])
             for v in (0, 2, 2 ** 32, 2 ** 32 + 1, -1):
                 self.refused(12, frame.variable, v)
+
+    def test_the_latest_block_of_a_variable(self):
+        """Among others, and bytes that look like a later block of it."""
+        for made in BOTH:
+            like = made.variable(1, 9)
+            for values in ((5,), (5, 6), (6, 5), (5, -1), (5, 7, 6), (6, 6, 6, -2 ** 63)):
+                blocks = [made.variable(1, value) + made.variable(2, ~value) + made.memory(7, like) for value in values]
+                frames = made.frame(1, *blocks, made.registers(like)), made.frame(1, like), made.frame(1)
+                file = made.trace(['R d'], *frames)
+                first, second, third = Trace(file, made.order)
+                self.assertEqual([first.variable(v) for v in (1, 2)], [values[-1], ~values[-1]])
+                self.assertEqual(second.variable(1), 9)
+                self.refused(12, third.variable, 1)
+                pair = Pair(file, file, made.order)
+                self.assertEqual([pair.variable(n, 1) for n in (0, 1, 3, 4)], 2 * [values[-1], 9])
+                self.refused(12, pair.variable, 5, 1)
 
 
 class Bases(Case):

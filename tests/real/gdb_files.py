@@ -12,7 +12,7 @@ import sys
 
 import raw_file
 from report import refusal, same
-from tufakpeni import Memory, Refusal, Registers, Trace, Variable
+from tufakpeni import Memory, Pair, Refusal, Registers, Trace, Variable
 
 HERE = pathlib.Path(__file__).parent
 FOLDER = HERE / 'gdb'
@@ -32,6 +32,13 @@ UNMARKED = {'resave'}
 
 # The head of the frame that gdbserver broke: gdb reads the five frames before it.
 CIRCULAR_BROKEN_AT = 29_678
+
+# Where variable 2 is collected before and after a step: by frame, its values in the order of its blocks.
+TWO_VALUES = {
+    'raw': {0: [-2, -1], 2: [-1, 0], 4: [0, 1]},
+    's390x': {0: [-1, -3], 1: [-3, -9], 2: [-9, -27], 3: [-27, -81], 4: [-81, -243]},
+    'tsv': {0: [5, 6], 1: [6, 7], 2: [7, 8]},
+}
 
 # Where a frame has no R block gdb takes the program counter from the tracepoint and shows it alone.
 PROGRAM_COUNTERS = {'rip', 'eip', 'pswa'}
@@ -113,16 +120,13 @@ def variable_names(trace):
 
 
 def compare_variables(trace, expected):
-    """gdb shows the last V block of a number, document 01 answers the earliest: each is held against that block."""
+    """What is answered for each variable that the frame has is what gdb shows, and gdb shows no other."""
     names = variable_names(trace)
     for frame, row in zip(trace, expected):
-        values = collections.defaultdict(list)
-        for block in frame.blocks:
-            if isinstance(block, Variable):
-                values[block.number].append(block.value)
-        same({names[number]: found[-1] for number, found in values.items()}, row['tsv'], f'frame {frame.number}')
-        same({number: frame.variable(number) for number in values},
-             {number: found[0] for number, found in values.items()}, f'frame {frame.number}')
+        numbers = {block.number for block in frame.blocks if isinstance(block, Variable)}
+        same({names[number]: frame.variable(number) for number in numbers}, row['tsv'], f'frame {frame.number}')
+        for number in names.keys() - numbers:
+            same(refusal(frame.variable, number), Refusal.NOT_FOUND, f'frame {frame.number}')
 
 
 def test_read(report, name, file):
@@ -198,12 +202,19 @@ def test_decimal_digits(report):
 
 
 def test_two_values(report):
-    """In tsv.tf a variable is collected before and after a step, so that earliest and last differ."""
-    with report.case('tsv: earliest and last'):
-        trace = Trace((FOLDER / 'tsv.tf').read_bytes())
-        pairs = [[block.value for block in frame.blocks if shape(block) == 'V2'] for frame in trace]
-        same(pairs, [[5, 6], [6, 7], [7, 8]])
-        same([frame.variable(2) for frame in trace], [5, 6, 7])
+    """In three files variable 2 is collected before and after a step, so that a frame has two values of it. The later one
+    is answered, and it is the one that gdb shows."""
+    for name, values in TWO_VALUES.items():
+        with report.case(f'{name}: the later of two values'):
+            file = sound_part(name, (FOLDER / f'{name}.tf').read_bytes())
+            trace = Trace(file, FACTS[name]['order'])
+            found = {frame.number: [block.value for block in frame.blocks if shape(block) == 'V2'] for frame in trace}
+            same({n: pair for n, pair in found.items() if pair}, values)
+            later = {n: pair[1] for n, pair in values.items()}
+            same({n: trace.frame(n).variable(2) for n in values}, later)
+            shown = {row['frame']: row['tsv'] for row in rows(name, 'gdb') if 'frame' in row}
+            same({n: shown[n][variable_names(trace)[2]] for n in values}, later)
+            same({n: Pair(file, file, FACTS[name]['order']).variable(len(trace) + n, 2) for n in values}, later)
 
 
 def test_zero_numbers(report, sound):

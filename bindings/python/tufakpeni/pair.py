@@ -33,7 +33,7 @@ class Pair(Holder):
         return PairFrame(answer.trace, answer.place, self.part(answer.place, answer.length, answer.trace))
 
     def variable(self, n, number):
-        """The value of a variable in frame n."""
+        """The value in the latest variable block with this number in frame n."""
         if not fits(number, 32):
             raise Refused(Refusal.NOT_FOUND)
         return ask('tfk_pair_variable', self._settings, *self._files, index(n), number).value

@@ -91,7 +91,7 @@ class Frame:
         return self._part('tfk_memory_place', address)
 
     def variable(self, number):
-        """The value in the earliest variable block with this number."""
+        """The value in the latest variable block with this number."""
         if not fits(number, 32):
             raise Refused(Refusal.NOT_FOUND)
         alone, _ = self._alone()

@@ -1,4 +1,6 @@
 """Traces as text, for people who read them by eye. Each function gives lines of text one by one."""
+import collections
+
 from .dat import SECTIONS
 from .refusal import absence_passed
 from .trace import Memory, Registers, Variable
@@ -66,9 +68,10 @@ def registers(frame):
 
 
 def variables(frame):
-    """Each variable once. Which of its blocks counts is for the library to say."""
-    numbers = dict.fromkeys(block.number for block in frame.blocks if isinstance(block, Variable))
-    return (f'variable {number} = {frame.variable(number)}' for number in numbers)
+    """Each variable once, and how many blocks it has. Which of them counts is for the library to say."""
+    blocks = collections.Counter(block.number for block in frame.blocks if isinstance(block, Variable))
+    for number, count in blocks.items():
+        yield f'variable {number} = {frame.variable(number)}' + (f', the last of {count} blocks' if count > 1 else '')
 
 
 def dat(header):

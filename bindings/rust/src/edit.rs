@@ -156,7 +156,7 @@ impl<'a> Pair<'a> {
         Ok(PairFrame { side, place: found.place, data })
     }
 
-    /// The value of a variable in frame n.
+    /// The value in the latest `V` block with that number in frame n.
     pub fn variable(&self, n: usize, number: u32) -> Result<i64, Refusal> {
         Ok(raw::pair_variable(self.settings, self.first, self.second, n, number)?.value)
     }

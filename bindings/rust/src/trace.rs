@@ -267,13 +267,15 @@ impl<'a> Frame<'a> {
         Ok(self.moved(found, data))
     }
 
-    /// The value in the earliest `V` block of that number.
+    /// The value in the latest `V` block with that number: of a variable that was collected before and after a step, the
+    /// value after it.
     ///
     /// ```
     /// use tufakpeni::{Order, Trace};
     ///
-    /// let file = b"\x7fTRACE0\n\n\x01\0\x0D\0\0\0V\x01\0\0\0\xFF\xFF\xFF\xFF\xFF\xFF\xFF\xFF";
-    /// let trace = Trace::open(Order::Little, file)?;
+    /// let variable = |value: i64| [b"V\x01\0\0\0", &value.to_le_bytes()[..]].concat();
+    /// let file = [b"\x7fTRACE0\n\n\x01\0\x1A\0\0\0", &variable(5)[..], &variable(-1)].concat();
+    /// let trace = Trace::open(Order::Little, &file)?;
     /// assert_eq!(trace.frame(0)?.variable(1)?, -1);
     /// # Ok::<(), tufakpeni::Refusal>(())
     /// ```

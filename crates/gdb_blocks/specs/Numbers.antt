@@ -2,7 +2,7 @@
 -- Assumes nothing.
 use mathlib.Core.Option.{Option, none, some}
 use Prim.Native.Nat.{ℕ}
-use mathlib.Core.List.{List, [], _∷_}
+use mathlib.Core.List.{List, [], _∷_, reverse}
 use Rattle.refusals.specs.Refusal.{notFound}
 use Rattle.fields.specs.Answer.{Answer}
 use Rattle.fields.specs.Refuses.{Refuses, OneOf, refuses-never, refuses-with, refuses-next}
@@ -39,4 +39,4 @@ module _ (s : Settings) (b : List ℕ) (n : ℕ) where
   memory-place-numbers a = in-frame-numbers (λ bs. earliest-numbers (memoryIn a) bs tt)
 
   pub variable-numbers : (v : ℕ) → Refuses (OneOf questionNumbers) (asked s b (variableAt n v))
-  variable-numbers v = asked-numbers s b _ (λ f t. refuses-next (nth-numbers (t .frames) n tt) (λ r. earliest-numbers (valueOf v) (r .blocks) tt))
+  variable-numbers v = asked-numbers s b _ (λ f t. refuses-next (nth-numbers (t .frames) n tt) (λ r. earliest-numbers (valueOf v) (reverse (r .blocks)) tt))

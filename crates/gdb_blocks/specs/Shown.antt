@@ -27,10 +27,11 @@ use Rattle.gdb_frames.specs.Questions.{asked, Handed}
 use Rattle.gdb_frames.specs.File.{file-of}
 use Rattle.gdb_frames.specs.PlaceLaws.{placed-there, placed-is, data-behind}
 use Rattle.gdb_blocks.specs.Search.{registersIn, memoryIn, blockAt, registersAt, memoryAt, variableAt}
-use Rattle.gdb_blocks.specs.Earliest.{Earliest, earliest-is, earliest-nth}
+use Rattle.gdb_blocks.specs.Earliest.{earliest, Earliest, earliest-is, earliest-none, earliest-nth}
+use Rattle.gdb_blocks.specs.Latest.{latest, latest-none}
 use Rattle.gdb_blocks.specs.Held.{registersOf, memoryOf, valueOf, heldIn, Missing, blockHeld, mapped, named, withLength, orEmpty}
-use Rattle.gdb_blocks.specs.ShownLaws.{registers-named, registers-there, memory-named, memory-there, named-held, block-held, held-missing}
-use Rattle.gdb_blocks.specs.ShownLaws.{asked-mapped, refused-alike, part-same}
+use Rattle.gdb_blocks.specs.ShownLaws.{registers-named, registers-there, memory-named, memory-there, named-held, block-held}
+use Rattle.gdb_blocks.specs.ShownLaws.{Misses, frame-missing, asked-mapped, refused-alike, part-same}
 
 -- ---- an answer and what the trace holds are one, refusals too
 
@@ -132,22 +133,25 @@ registers-said h q =
 -- ---- 12 exactly where the frame has no such block, or is not there
 
 module _ (s : Settings) (b : List ℕ) (h : Bytes b) (n : ℕ) (f : Format) (t : Trace) (e : read s b ≡ accepted (f, t)) where
-  missing : {A B C : Type 0} (g : Block → Option B) (x : Answer A) (j : A → C) (k : B → C)
-      → mapped j x ≡ mapped k (asked s b (heldIn n g)) → (x ≡ refused notFound) ↔ Missing n g t
-  missing g x j k i =
-      let r : asked s b (heldIn n g) ≡ heldIn n g f t = ap (λ y. next y (λ r. heldIn n g (r .0) (r .1))) e in
-      let q = refused-alike j k x (asked s b (heldIn n g)) notFound i in
-      let m = held-missing g n f t in
-      ((λ z. m .0 (sym r ∙ q .0 z)), (λ z. q .1 (r ∙ m .1 z)))
+  missing : {A B C : Type 0} (g : Block → Option B) (q : List Block → Answer B) → Misses g q → (x : Answer A) (j : A → C) (k : B → C)
+      → mapped j x ≡ mapped k (asked s b (λ f t. next (nth (t .frames) n) (λ r. q (r .blocks)))) → (x ≡ refused notFound) ↔ Missing n g t
+  missing {B = B} g q misses x j k i =
+      let held : Format → Trace → Answer B = λ f t. next (nth (t .frames) n) (λ r. q (r .blocks)) in
+      let r : asked s b held ≡ held f t = ap (λ y. next y (λ r. held (r .0) (r .1))) e in
+      let a = refused-alike j k x (asked s b held) notFound i in
+      let m = frame-missing g q misses n t in
+      ((λ z. m .0 (sym r ∙ a .0 z)), (λ z. a .1 (r ∙ m .1 z)))
 
   pub registers-missing : (asked s b (registersAt n) ≡ refused notFound) ↔ Missing n registersOf t
-  registers-missing = missing registersOf (asked s b (registersAt n)) (named b) withLength (registers-shown s b h n)
+  registers-missing =
+      missing registersOf (earliest registersOf) (earliest-none registersOf) (asked s b (registersAt n)) (named b) withLength (registers-shown s b h n)
 
   pub memory-missing : (a : ℕ) → (asked s b (memoryAt n a) ≡ refused notFound) ↔ Missing n (memoryOf a) t
-  memory-missing a = missing (memoryOf a) (asked s b (memoryAt n a)) (named b) withLength (memory-shown s b h n a)
+  memory-missing a =
+      missing (memoryOf a) (earliest (memoryOf a)) (earliest-none (memoryOf a)) (asked s b (memoryAt n a)) (named b) withLength (memory-shown s b h n a)
 
   pub variable-missing : (v : ℕ) → (asked s b (variableAt n v) ≡ refused notFound) ↔ Missing n (valueOf v) t
-  variable-missing v = missing (valueOf v) (asked s b (variableAt n v)) (λ x. x) (λ x. x) refl
+  variable-missing v = missing (valueOf v) (latest (valueOf v)) (latest-none (valueOf v)) (asked s b (variableAt n v)) (λ x. x) (λ x. x) refl
 
 -- ---- at the place of a block's record stands the block
 

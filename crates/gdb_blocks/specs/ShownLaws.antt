@@ -12,7 +12,7 @@ use lib.Seq.{take-all}
 use lib.Dec.{ltb}
 use borrow.Author.Tests.{ltb-true}
 use Rattle.refusals.specs.Refusal.{notFound}
-use Rattle.fields.specs.Lists.{concatMap, regroup, part-behind, part-there, piece-there}
+use Rattle.fields.specs.Lists.{concatMap, Each, regroup, part-behind, part-there, piece-there}
 use Rattle.fields.specs.Number.{Bytes, field, length-field, field-before}
 use Rattle.fields.specs.Answer.{Answer, accepted, refused, next, never, next-cong, next-assoc, refused-inv, accepted-inj}
 use Rattle.fields.specs.Element.{nth, nth-refused}
@@ -27,7 +27,7 @@ use Rattle.gdb_frames.specs.File.{File, file-of}
 use Rattle.gdb_frames.specs.PlaceLaws.{placed-then, data-behind}
 use Rattle.gdb_blocks.specs.Search.{registersIn, memoryIn, inFrame, blockAt}
 use Rattle.gdb_blocks.specs.Held.{offset, registersOf, memoryOf, heldIn, Missing, blockHeld, mapped, named, withLength, orEmpty}
-use Rattle.gdb_blocks.specs.Earliest.{orLater, earliest, earliest-none, earliest-map}
+use Rattle.gdb_blocks.specs.Earliest.{orLater, earliest, earliest-map}
 
 -- ---- one block
 
@@ -115,15 +115,20 @@ block-held f t n k =
     ∙ placed-then (putFrame f) (t .frames) (length (opening (t .lines))) n (λ r. mapped carriedBy (nth (r .blocks) k))
     ∙ sym (next-assoc (nth (t .frames) n) (λ r. nth (r .blocks) k) (λ x. accepted (carriedBy x)))
 
--- 12 exactly where the frame has none, or is not there
-pub held-missing : {B : Type 0} (g : Block → Option B) (n : ℕ) (f : Format) (t : Trace) → (heldIn n g f t ≡ refused notFound) ↔ Missing n g t
-held-missing g n f t = (forth, λ m. back (nth (t .frames) n) refl m)
-  where
-    forth : heldIn n g f t ≡ refused notFound → Missing n g t
-    forth e r i = (earliest-none g (r .blocks)) .0 (ap (λ x. next x (λ r. earliest g (r .blocks))) (sym i) ∙ e)
+-- q gives 12 exactly where `g` finds nothing
+abbrev pub Misses : {B : Type 0} → (Block → Option B) → (List Block → Answer B) → Type 0
+Misses g q = (xs : List Block) → (q xs ≡ refused notFound) ↔ Each (λ x. g x ≡ none) xs
 
-    back : (x : Answer Frame) → nth (t .frames) n ≡ x → Missing n g t → next x (λ r. earliest g (r .blocks)) ≡ refused notFound
-    back (accepted r) i m = (earliest-none g (r .blocks)) .1 (m r i)
+-- 12 exactly where the frame has none, or is not there
+pub frame-missing : {B : Type 0} (g : Block → Option B) (q : List Block → Answer B) → Misses g q → (n : ℕ) (t : Trace)
+    → (next (nth (t .frames) n) (λ r. q (r .blocks)) ≡ refused notFound) ↔ Missing n g t
+frame-missing g q misses n t = (forth, λ m. back (nth (t .frames) n) refl m)
+  where
+    forth : next (nth (t .frames) n) (λ r. q (r .blocks)) ≡ refused notFound → Missing n g t
+    forth e r i = (misses (r .blocks)) .0 (ap (λ x. next x (λ r. q (r .blocks))) (sym i) ∙ e)
+
+    back : (x : Answer Frame) → nth (t .frames) n ≡ x → Missing n g t → next x (λ r. q (r .blocks)) ≡ refused notFound
+    back (accepted r) i m = (misses (r .blocks)) .1 (m r i)
     back (refused k) i m = ap refused (nth-refused (t .frames) n k i)
 
 -- ---- what holds of every file and its trace holds of what is asked

@@ -1,4 +1,5 @@
 pub mod Pair
 pub mod PairLaws
 pub mod PairRefusals
+pub mod PairLatest
 pub mod Numbers

@@ -24,9 +24,7 @@ use Rattle.gdb_frames.specs.Nth.{nthHead, nth-found}
 use Rattle.gdb_frames.specs.File.{File}
 use Rattle.gdb_frames.specs.PlaceLaws.{placed-nth, placed-is, InFile, handed, frame-within, data-there}
 use Rattle.gdb_frames.specs.Located.{head-front}
-use Rattle.gdb_blocks.specs.Earliest.{earliest}
 use Rattle.gdb_blocks.specs.Search.{variableAt}
-use Rattle.gdb_blocks.specs.Held.{valueOf, heldIn}
 use Rattle.gdb_join.specs.Join.{join, joinOf}
 use Rattle.gdb_join.specs.JoinTraces.{layout-join}
 use Rattle.gdb_frames.specs.File.{read-file, same-lines}
@@ -207,17 +205,15 @@ handed-second s a b r n q ha hb e g =
 -- ---- variables
 
 module _ (s : Settings) (a b c : List ℕ) (f : Format) (t u : Trace) (i : Joined s a b c f t u) (n v : ℕ) where
-  variable-join : pairVariable s a b n v ≡ heldIn n (valueOf v) f (join t u)
+  variable-join : pairVariable s a b n v ≡ variableAt n v f (join t u)
   unfolding pairVariable
   variable-join = rw (i .gives, i .join-read)
 
   variable-first : n < length (t .frames) → asked s a (variableAt n v) ≡ pairVariable s a b n v
-  variable-first h =
-      rw (i .both .first-read) (ap (λ x. next x (λ r. earliest (valueOf v) (r .blocks))) (sym (nth-first (t .frames) (u .frames) n h))) ∙ sym variable-join
+  variable-first h = rw (i .both .first-read, ← nth-first (t .frames) (u .frames) n h) (sym variable-join)
 
   variable-second : length (t .frames) ≤ n → asked s b (variableAt (n - length (t .frames)) v) ≡ pairVariable s a b n v
-  variable-second h =
-      rw (i .both .second-read) (ap (λ x. next x (λ r. earliest (valueOf v) (r .blocks))) (sym (nth-second (t .frames) (u .frames) n h))) ∙ sym variable-join
+  variable-second h = rw (i .both .second-read, ← nth-second (t .frames) (u .frames) n h) (sym variable-join)
 
 pub variable-refused : (s : Settings) (a b : List ℕ) (n v k : ℕ) → joinOf s a b ≡ refused k → refused k ≡ pairVariable s a b n v
 unfolding pairVariable

@@ -2,9 +2,9 @@
 -- Assumes nothing.
 use mathlib.Core.Path.{_≡_, refl}
 use mathlib.Core.Bool.{Bool, true, false}
-use Prim.Native.Nat.{ℕ}
+use Prim.Native.Nat.{ℕ, zero, suc}
 use mathlib.Core.List.{List, [], _∷_, _++_}
-use lib.ListN.{replicate}
+use lib.ListN.{length, replicate}
 use lib.IntN.{pos}
 use Rattle.refusals.specs.Refusal as no
 use Rattle.fields.specs.Lists.{Each}
@@ -27,6 +27,11 @@ numbers = refl
 -- in byte order o
 abbrev pub ordered : ℕ → List ℕ → Question → Answer Reply → Case
 ordered o = inSettings (defaultSettings o)
+
+-- a frame with number n and fewer than 256 bytes of data, in byte order o
+abbrev pub framed : ℕ → ℕ → List ℕ → List ℕ
+framed zero n d = n ∷ 0 ∷ length d ∷ 0 ∷ 0 ∷ 0 ∷ d
+framed (suc o) n d = 0 ∷ n ∷ 0 ∷ 0 ∷ 0 ∷ length d ∷ d
 
 -- a description of one line, and no frames
 abbrev lined : List ℕ → List ℕ

@@ -2,6 +2,7 @@ pub mod Cases
 pub mod Edges
 pub mod Marks
 pub mod Registers
+pub mod Variables
 pub mod Bases
 pub mod ListingCases
 pub mod Limit

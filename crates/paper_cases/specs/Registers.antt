@@ -4,7 +4,7 @@ use mathlib.Core.Path.{_≡_, refl}
 use mathlib.Core.Bool.{true}
 use Prim.Native.Nat.{ℕ, zero, suc}
 use mathlib.Core.List.{List, [], _∷_, _++_}
-use lib.ListN.{length, take, replicate}
+use lib.ListN.{take, replicate}
 use Rattle.fields.specs.Lists.{Each}
 use Rattle.fields.specs.Answer.{accepted, refused}
 use Rattle.gdb_format.specs.Trace.{opening, encode}
@@ -12,12 +12,7 @@ use Rattle.gdb_format.specs.Decode.{read}
 use Rattle.gdb_cut.specs.Cut.{cutOf}
 use Rattle.gdb_join.specs.Join.{joinOf}
 use Rattle.paper_cases.specs.Cases.{frames, registers, memory, cut, rows, bytes, Case, Holds, inSettings, bare, two, row, range}
-use Rattle.paper_cases.specs.Edges.{ordered, registerLine, stated, little}
-
--- a frame with number n and fewer than 256 bytes of data, in byte order o
-abbrev framed : ℕ → ℕ → List ℕ → List ℕ
-framed zero n d = n ∷ 0 ∷ length d ∷ 0 ∷ 0 ∷ 0 ∷ d
-framed (suc o) n d = 0 ∷ n ∷ 0 ∷ 0 ∷ 0 ∷ length d ∷ d
+use Rattle.paper_cases.specs.Edges.{ordered, framed, registerLine, stated, little}
 
 -- `R 0`
 abbrev sizeZero : List ℕ → List ℕ

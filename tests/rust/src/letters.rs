@@ -99,6 +99,14 @@ impl<'f> Frames<'f> {
     }
 }
 
+/// A variable's number as its block has it.
+pub fn number_bytes(settings: Settings, number: u32) -> [u8; 4] {
+    if settings.order == 0 {
+        return number.to_le_bytes();
+    }
+    number.to_be_bytes()
+}
+
 /// The opening of a file, up to and with the first empty line, and what follows.
 fn opened(file: &[u8]) -> Option<(&[u8], &[u8])> {
     let head_end = file.get(7..).filter(|_| file.len() <= MAX_LENGTH)?;

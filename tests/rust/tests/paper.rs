@@ -1,5 +1,5 @@
-//! Document 01's own cases, "Both sides of each edge", those of requests C-11, C-18 and C-20, and those of docs/DECISIONS.md,
-//! "How the papers are read", with values written out here.
+//! Document 01's own cases, "Both sides of each edge", those of requests C-11, C-13, C-18 and C-20, and those of
+//! docs/DECISIONS.md, "How the papers are read", with values written out here.
 //! The second reader is held to them first, then the library.
 
 use tufakpeni_tests::answers::{Answer, SECOND};
@@ -16,11 +16,15 @@ use tufakpeni_tests::second::MAX_LENGTH;
 mod base;
 #[path = "paper/registers.rs"]
 mod registers;
+#[path = "paper/variables.rs"]
+mod variables;
 
 /// Both byte orders in the default base, and the base that the paper's cases at 65,535 and 65,536 state.
 const LITTLE: Settings = Settings { order: 0, base: 16 };
 const BIG: Settings = Settings { order: 1, base: 16 };
 const LITTLE_TEN: Settings = Settings { order: 0, base: 10 };
+const BIG_TEN: Settings = Settings { order: 1, base: 10 };
+const ALL: [Settings; 4] = [LITTLE, LITTLE_TEN, BIG, BIG_TEN];
 const H: &[u8] = b"\x7fTRACE0\n";
 /// The two-register case.
 const TWO_REGISTERS: &[u8] = b"R 2\n\n\x01\0\x03\0\0\0R\xAA\xBB";
@@ -31,6 +35,21 @@ const VARIABLE: &[u8] = b"\n\x01\0\x0D\0\0\0V\x01\0\0\0\xFF\xFF\xFF\xFF\xFF\xFF\
 
 fn trace(rest: &[u8]) -> Vec<u8> {
     [H, rest].concat()
+}
+
+/// A frame of number 7 with these data, in the byte order of the settings.
+fn frame(settings: Settings, data: &[u8]) -> Vec<u8> {
+    let (number, size) = (7_u16, data.len() as u32);
+    match settings.order {
+        0 => [&number.to_le_bytes(), &size.to_le_bytes()[..], data].concat(),
+        _ => [&number.to_be_bytes(), &size.to_be_bytes()[..], data].concat(),
+    }
+}
+
+/// A trace with this description and a frame for each of these data.
+fn with_frames(settings: Settings, lines: &[u8], frames: &[&[u8]]) -> Vec<u8> {
+    let frames: Vec<_> = frames.iter().map(|data| frame(settings, data)).collect();
+    trace(&[lines, b"\n", &frames.concat()].concat())
 }
 
 /// The refusal of a trace, 0 where it is accepted.
@@ -378,6 +397,7 @@ fn all(reader: &Reader) {
     marked_edits(reader);
     base::all(reader);
     registers::all(reader);
+    variables::all(reader);
     dat_headers(reader);
     dat_ranges(reader);
     longest_files(reader);

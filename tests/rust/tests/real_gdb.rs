@@ -146,10 +146,11 @@ impl<'s> Checked<'s> {
             let read: String = (0..length).map(|i| format!("{:02x}", self.byte(n, address + i))).collect();
             assert_eq!(read, bytes.trim_matches('"'), "{told}");
         }
-        for (name, value) in values(line) {
-            let number = self.variables[name];
-            let latest = self.blocks(n).rfind(|block| block.letter == b'V' && block.number == number);
-            assert_eq!(latest.expect("a variable").value.to_string(), value, "{told}");
+        let values: HashMap<_, _> = values(line).into_iter().collect();
+        for (name, &number) in &self.variables {
+            let answer = (self.reader.variable)(self.settings, &self.bytes, n, number);
+            let shown = (answer.refusal == 0).then(|| answer.value.to_string());
+            assert_eq!(shown.as_deref(), values.get(&name[..]).copied(), "{told}");
         }
     }
 }

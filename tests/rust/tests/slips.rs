@@ -14,6 +14,8 @@ use tufakpeni_tests::second::{Refusal, MAX_LENGTH};
 mod base;
 #[path = "slips/registers.rs"]
 mod registers;
+#[path = "slips/variables.rs"]
+mod variables;
 
 /// By how many made files a slip has to be seen at the latest: far fewer than the gate compares.
 const FILES: usize = 6_000;
@@ -53,14 +55,13 @@ fn the_second_reader_does_not_differ_from_itself() {
 
 type Slip = (&'static str, Reader);
 
-const QUESTION_SLIPS: [Slip; 12] = [
+const QUESTION_SLIPS: [Slip; 11] = [
     ("order not looked at", Reader { frame_count: little_always, ..SECOND }),
     ("R8 taken as an R line", Reader { frame_count: r8_as_r_line, ..SECOND }),
     ("a missing end before a bad line", Reader { frame_count: end_first, ..SECOND }),
     ("a short block before no R line", Reader { frame_count: short_first, ..SECOND }),
     ("registers by letter", Reader { registers_place: registers_by_letter, ..SECOND }),
     ("latest memory", Reader { memory_place: latest_memory, ..SECOND }),
-    ("latest variable", Reader { variable: latest_variable, ..SECOND }),
     ("memory that does not wrap", Reader { memory_place: unwrapped_memory, ..SECOND }),
     ("variable without its sign", Reader { variable: unsigned_variable, ..SECOND }),
     ("a field left on a refusal", Reader { block_record: left_field, ..SECOND }),
@@ -150,6 +151,11 @@ fn slips_about_second_registers_are_seen() {
     {
         all_seen(slips, seen_on_traces);
     }
+}
+
+#[test]
+fn slips_about_variables_are_seen() {
+    all_seen(&variables::SLIPS, seen_on_traces);
 }
 
 /// The layout's own words, that of a frame's blocks at most one is a register block, over frames taken apart otherwise.
@@ -322,14 +328,6 @@ fn unwrapped_memory(settings: Settings, file: &[u8], n: usize, address: u64) -> 
     instead((SECOND.memory_place)(settings, file, n, address), || {
         let found = blocks(settings, file, n).find(covers);
         Some(found.map_or(Place::refused(Refusal::NotFound as u8), |block| memory_in(&block, address)))
-    })
-}
-
-fn latest_variable(settings: Settings, file: &[u8], n: usize, number: u32) -> Value {
-    let right = (SECOND.variable)(settings, file, n, number);
-    instead(right, || {
-        let latest = blocks(settings, file, n).rfind(|block| block.letter == b'V' && block.number == number)?;
-        Some(Value { value: latest.value, ..right })
     })
 }
 

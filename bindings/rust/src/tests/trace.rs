@@ -1,6 +1,6 @@
 //! Traces, their lines, frames and blocks.
 use super::bytes::{frame, marked, memory, opening, registers, stands_at, trace, variable, ORDERS};
-use crate::{raw, Base, Block, Content, LineKind, Order, Refusal, Settings, Trace, LONGEST};
+use crate::{raw, Base, Block, Content, LineKind, Order, Pair, Refusal, Settings, Trace, LONGEST};
 use std::ops::Range;
 
 const BOARD: &[u8] = include_bytes!("../../../../samples/board.tf");
@@ -228,17 +228,41 @@ fn memory_runs_on_at_address_0() {
 }
 
 #[test]
-fn variables_are_signed_and_the_earliest_counts() {
+fn variables_are_signed() {
     for order in ORDERS {
-        let file = trace(
-            "",
-            &[frame(order, 1, &[variable(order, 1, -1), variable(order, 1, 4), variable(order, 2, i64::MIN)])],
-        );
+        let file = trace("", &[frame(order, 1, &[variable(order, 1, -1), variable(order, 2, i64::MIN)])]);
         let trace = Trace::open(order, &file).unwrap();
         assert_eq!(trace.variable(0, 1), Ok(-1));
         assert_eq!(trace.variable(0, 2), Ok(i64::MIN));
         assert_eq!(trace.variable(0, 3), Err(Refusal::NotFound));
         assert_eq!(trace.variable(1, 1), Err(Refusal::NotFound));
+    }
+}
+
+/// A trace of one frame with variable 1 of these values, one behind the other, and other blocks around each.
+fn collected(order: Order, values: &[i64]) -> Vec<u8> {
+    let mut blocks = vec![registers(&variable(order, 1, 98)), variable(order, 2, 99)];
+    for &value in values {
+        let look_alike = memory(order, 1, &variable(order, 1, 97));
+        blocks.extend([variable(order, 1, value), look_alike, variable(order, 2, value)]);
+    }
+    trace("R d\n", &[frame(order, 1, &blocks)])
+}
+
+#[test]
+fn the_latest_block_of_a_variable_counts() {
+    for order in ORDERS {
+        for values in [&[5][..], &[5, 6], &[6, 5], &[5, -1], &[5, 7, 6], &[6, 6, 6, i64::MIN]] {
+            let file = collected(order, values);
+            let (trace, pair) = (Trace::open(order, &file).unwrap(), Pair::new(order, &file, &file));
+            for number in [1, 2] {
+                assert_eq!(trace.variable(0, number), Ok(values[values.len() - 1]));
+                assert_eq!([0, 1].map(|n| pair.variable(n, number)), [trace.variable(0, number); 2]);
+            }
+        }
+        let none = collected(order, &[]);
+        assert_eq!(Trace::open(order, &none).unwrap().variable(0, 1), Err(Refusal::NotFound));
+        assert_eq!(Pair::new(order, &none, &none).variable(1, 1), Err(Refusal::NotFound));
     }
 }
 

@@ -47,6 +47,8 @@ pub enum Frames {
     Memory,
     /// A variable: 19 bytes.
     Variable,
+    /// A variable, 8 bytes of memory and a variable, as often as there is room: one frame.
+    Long,
 }
 
 /// The address of a frame's last memory block.
@@ -61,7 +63,8 @@ impl Frames {
         }
     }
 
-    fn blocks(self, file: &mut Writer) {
+    /// The blocks of a frame, of `most` bytes at most where it is a long one.
+    fn blocks(self, file: &mut Writer, most: usize) {
         let addresses = (0..=LAST_ADDRESS).step_by(0x1000);
         match self {
             Frames::Registers => {
@@ -70,14 +73,15 @@ impl Frames {
             }
             Frames::Small => {
                 self.registers(file);
-                for address in addresses {
-                    variable(file);
-                    memory(file, address, 8);
-                    variable(file);
-                }
+                addresses.for_each(|address| step(file, address));
             }
             Frames::Memory => addresses.for_each(|address| memory(file, address, 16)),
             Frames::Variable => variable(file),
+            Frames::Long => {
+                while file.bytes.len() + STEP <= most {
+                    step(file, LAST_ADDRESS);
+                }
+            }
         }
     }
 
@@ -87,6 +91,15 @@ impl Frames {
         file.fill(b'M', self.register_size());
     }
 }
+
+/// A variable before and after a step, and the memory that it writes: so many bytes.
+fn step(file: &mut Writer, address: u64) {
+    variable(file);
+    memory(file, address, 8);
+    variable(file);
+}
+
+const STEP: usize = 13 + 19 + 13;
 
 fn memory(file: &mut Writer, address: u64, size: usize) {
     file.text(b"M");
@@ -106,13 +119,13 @@ pub const NUMBERS: u64 = 8;
 
 /// A trace of as many frames as `length` bytes hold, and the end mark where it has one.
 pub fn trace(frames: Frames, marked: bool, big: bool, length: usize) -> Vec<u8> {
-    let mut data = Writer { bytes: Vec::new(), big };
-    frames.blocks(&mut data);
-    let data = data.bytes;
     let mark = if marked { END_MARK } else { &[] };
     // The registers' size as debuggers write it, in base 16.
     let size = frames.register_size();
     let opening = format!("\x7fTRACE0\nR {size:x}\nstatus 0;tstop::0\ntp T1:400580:E:0:0\n\n");
+    let mut data = Writer { bytes: Vec::new(), big };
+    frames.blocks(&mut data, length - opening.len() - 6 - mark.len());
+    let data = data.bytes;
     let mut file = Writer::new(big, opening.as_bytes());
     for number in (1..=NUMBERS).cycle() {
         if file.bytes.len() + 6 + data.len() + mark.len() > length {

@@ -88,6 +88,12 @@ fn last_memory(side: Side, work: &mut Work) -> Told {
     (answer.refusal, answer.place, answer.length)
 }
 
+/// A variable that the frame has in its first block too, where it has several.
+fn last_variable(side: Side, work: &mut Work) -> Told {
+    let answer = (side.reader().variable)(work.settings, black_box(&work.file), work.last(), 1);
+    (answer.refusal, answer.value as usize, 0)
+}
+
 /// The selection that keeps half of the tracepoint numbers.
 fn half_of_numbers() -> Selection {
     let mut selection = Selection { count: 1, keep: 1, ..Selection::default() };
@@ -133,12 +139,13 @@ struct Question {
     copy: Option<fn(&mut Work, usize)>,
 }
 
-const QUESTIONS: [Question; 8] = [
+const QUESTIONS: [Question; 9] = [
     Question { name: "number of frames", ask: frame_count, copy: None },
     Question { name: "end mark", ask: end_mark, copy: None },
     Question { name: "frame table", ask: frame_table, copy: None },
     Question { name: "last frame", ask: last_frame, copy: None },
     Question { name: "memory in the last frame", ask: last_memory, copy: None },
+    Question { name: "variable in the last frame", ask: last_variable, copy: None },
     Question { name: "cut, half kept", ask: cut, copy: Some(copy_of_cut) },
     Question { name: "the same, output just fits", ask: cut_that_just_fits, copy: Some(copy_of_cut) },
     Question { name: "join of two halves", ask: join, copy: Some(copy_of_join) },
@@ -187,12 +194,13 @@ fn compare_tables(work: &Work) {
 }
 
 /// Each kind of frame, whether the end mark stands behind them, and the ratio to plain Rust that is not to be passed.
-const FILES: [(&str, Frames, bool, f64); 5] = [
+const FILES: [(&str, Frames, bool, f64); 6] = [
     ("796-byte frames", Frames::Registers, false, 1.05),
     ("189-byte frames", Frames::Small, false, 1.2),
     ("114-byte frames", Frames::Memory, false, 1.2),
     ("19-byte frames", Frames::Variable, false, 1.2),
     ("19-byte frames, end mark", Frames::Variable, true, 1.2),
+    ("one frame of 64 MiB", Frames::Long, false, 1.2),
 ];
 
 pub fn run(rounds: usize) {

@@ -1,8 +1,10 @@
 //! Cuts, joins and pairs.
 
-use super::{ask, indices, Comparer, Difference, Met};
+use super::variables::has_unlike;
+use super::{ask, indices, Comparer, Difference, Met, Variables};
 use crate::answers::SECOND;
 use crate::c::{Length, Selection, Settings};
+use crate::letters::{number_bytes, Frames};
 use crate::make::{selection, Random};
 use crate::reader::Reader;
 use std::fmt::Arguments;
@@ -43,6 +45,7 @@ impl Comparer<'_> {
             let [first, second] = [first, second].map(|file| (SECOND.end_mark)(settings, file).marked == 1);
             self.meet(Met::Join { first, second });
         }
+        let apart = [first, second].map(|file| Frames::read(settings, file).filter(|_| joined.refusal == 0));
         let first_count = (SECOND.frame_count)(settings, first).count;
         let count = first_count + (SECOND.frame_count)(settings, second).count;
         let border = first_count.saturating_sub(2)..first_count + 2;
@@ -50,6 +53,14 @@ impl Comparer<'_> {
             ask!(self.pair_place([settings] first second [n]))?;
             let number = random.pick(&[0, 1, 1, 2, 3, 1 << 31, u32::MAX]);
             ask!(self.pair_variable([settings] first second [n, number]))?;
+            let (apart, n, side) = match n.checked_sub(first_count) {
+                None => (&apart[0], n, Variables::OfFirst),
+                Some(n) => (&apart[1], n, Variables::OfSecond),
+            };
+            let frame = apart.as_ref().and_then(|apart| apart.frames.get(n));
+            if frame.is_some_and(|frame| has_unlike(frame, number_bytes(settings, number))) {
+                self.meet(Met::variables(side, settings));
+            }
         }
         Ok(())
     }

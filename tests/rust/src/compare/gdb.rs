@@ -1,9 +1,10 @@
 //! The questions about a GDB trace.
 
 use super::lent::Table;
-use super::{ask, indices, Based, Comparer, Difference, Met, Registers};
+use super::{ask, indices, Based, Comparer, Difference, Met, Registers, Variables};
 use crate::answers::SECOND;
 use crate::c::{Count, Place, Settings, LINE_R};
+use crate::letters::{number_bytes, Frame, Frames};
 use crate::make::{settings, MadeTrace, Random};
 use crate::second::Refusal;
 use std::iter::successors;
@@ -64,7 +65,8 @@ impl Comparer<'_> {
     fn questions(&mut self, settings: Settings, file: &[u8]) -> Result<Shown, Difference> {
         let count = ask!(self.frame_count([settings] file []))?;
         self.meet_refusal(settings, count.refusal);
-        for shown in Registers::of_file(settings, file, count.refusal) {
+        let apart = Frames::read(settings, file);
+        for shown in apart.iter().flat_map(|apart| Registers::of_trace(apart, count.refusal)) {
             self.meet(Met::registers(shown, settings));
         }
         let mark = ask!(self.end_mark([settings] file []))?;
@@ -75,9 +77,10 @@ impl Comparer<'_> {
             self.table(settings, file, room)?;
         }
         self.lines(settings, file)?;
+        let frames = apart.filter(|_| count.refusal == 0).map_or(Vec::new(), |apart| apart.frames);
         let mut registers = None;
         for n in indices(count.count, self.most) {
-            let shown = self.frame(settings, file, n)?;
+            let shown = self.frame(settings, file, n, frames.get(n))?;
             registers = registers.or((shown.refusal == 0).then_some(shown.length));
         }
         Ok(Shown { count, registers })
@@ -108,8 +111,8 @@ impl Comparer<'_> {
         given.same(call, &second, answer.count)
     }
 
-    /// Every question about frame n; the answer is where its registers are.
-    fn frame(&mut self, settings: Settings, file: &[u8], n: usize) -> Result<Place, Difference> {
+    /// Every question about frame n, which is taken apart too where it is there; the answer is where its registers are.
+    fn frame(&mut self, settings: Settings, file: &[u8], n: usize, apart: Option<&Frame>) -> Result<Place, Difference> {
         ask!(self.frame_place([settings] file [n]))?;
         let registers = ask!(self.registers_place([settings] file [n]))?;
         let (mut addresses, mut numbers) = (vec![0, u64::MAX], vec![0, 1]);
@@ -129,6 +132,8 @@ impl Comparer<'_> {
         }
         for number in unlike(numbers) {
             ask!(self.variable([settings] file [n, number]))?;
+            let shown = apart.map(|frame| Variables::of_frame(frame, number_bytes(settings, number)));
+            shown.into_iter().flatten().for_each(|shown| self.meet(Met::variables(shown, settings)));
         }
         Ok(registers)
     }

@@ -1,6 +1,6 @@
 //! What the comparison of a file meets.
 
-use super::Registers;
+use super::{Registers, Variables};
 use crate::c::Settings;
 use crate::second::Refusal;
 
@@ -21,6 +21,11 @@ pub enum Met {
         shown: Registers,
         big: bool,
         ten: bool,
+    },
+    /// What a frame shows of a variable that is asked for, in one byte order.
+    Variables {
+        shown: Variables,
+        big: bool,
     },
 }
 
@@ -87,7 +92,10 @@ impl Based {
 
 impl Met {
     /// How many there are.
-    pub const COUNT: usize = Refusal::LAST as usize + 6 + Based::ALL.len() + 4 * Registers::ALL.len();
+    pub const COUNT: usize = Met::REGISTERS + 4 * Registers::ALL.len() + 2 * Variables::ALL.len();
+
+    /// The first number of those about register blocks.
+    const REGISTERS: usize = Refusal::LAST as usize + 6 + Based::ALL.len();
 
     /// A number of its own below the count.
     pub fn index(self) -> usize {
@@ -98,7 +106,10 @@ impl Met {
             Met::Join { first, second } => last + 2 + 2 * usize::from(first) + usize::from(second),
             Met::Based(based) => last + 6 + based as usize,
             Met::Registers { shown, big, ten } => {
-                last + 6 + Based::ALL.len() + 4 * shown as usize + 2 * usize::from(big) + usize::from(ten)
+                Met::REGISTERS + 4 * shown as usize + 2 * usize::from(big) + usize::from(ten)
+            }
+            Met::Variables { shown, big } => {
+                Met::REGISTERS + 4 * Registers::ALL.len() + 2 * shown as usize + usize::from(big)
             }
         }
     }
@@ -107,10 +118,15 @@ impl Met {
         Met::Registers { shown, big: settings.order == 1, ten: settings.base == 10 }
     }
 
+    pub fn variables(shown: Variables, settings: Settings) -> Self {
+        Met::Variables { shown, big: settings.order == 1 }
+    }
+
     pub fn all() -> impl Iterator<Item = Met> {
         let refusals = (1..=Refusal::LAST).map(Met::Refusal);
         let marks = [false, true].map(Met::Marked);
-        refusals.chain(marks).chain(Met::joins()).chain(Based::ALL.map(Met::Based)).chain(Met::all_registers())
+        let bases = Based::ALL.map(Met::Based);
+        refusals.chain(marks).chain(Met::joins()).chain(bases).chain(Met::all_registers()).chain(Met::all_variables())
     }
 
     /// Joins of all four markings.
@@ -124,5 +140,10 @@ impl Met {
         let settings = [(false, false), (false, true), (true, false), (true, true)];
         let shown = Registers::ALL.into_iter();
         shown.flat_map(move |shown| settings.map(|(big, ten)| Met::Registers { shown, big, ten }))
+    }
+
+    /// All that is shown of variables, in both byte orders.
+    pub fn all_variables() -> impl Iterator<Item = Met> {
+        Variables::ALL.into_iter().flat_map(|shown| [false, true].map(|big| Met::Variables { shown, big }))
     }
 }

@@ -6,9 +6,11 @@ mod gdb;
 mod lent;
 mod met;
 mod registers;
+mod variables;
 
 pub use met::{Based, Met};
 pub use registers::Registers;
+pub use variables::Variables;
 
 use crate::answers::Answer;
 use crate::reader::Reader;
@@ -29,6 +31,8 @@ impl Difference {
     }
 }
 
+const NOTHING: [bool; Met::COUNT] = [false; Met::COUNT];
+
 /// What compares a reader with the second one, and counts.
 pub struct Comparer<'r> {
     reader: &'r Reader,
@@ -36,8 +40,8 @@ pub struct Comparer<'r> {
     most: usize,
     outputs: [Output; 2],
     pub calls: usize,
-    /// A bit for each that was met.
-    met: u128,
+    /// Of each whether it was met.
+    met: [bool; Met::COUNT],
 }
 
 /// Compares one call; the first list of arguments stands before the lent files, the second after them.
@@ -55,7 +59,7 @@ use ask;
 impl<'r> Comparer<'r> {
     /// For made files: all frames and blocks but of the few that are large.
     pub fn new(reader: &'r Reader) -> Self {
-        Comparer { reader, most: 12, outputs: Default::default(), calls: 0, met: 0 }
+        Comparer { reader, most: 12, outputs: Default::default(), calls: 0, met: NOTHING }
     }
 
     /// For every frame and every block, however many.
@@ -65,12 +69,12 @@ impl<'r> Comparer<'r> {
 
     /// What was met since this was last asked.
     pub fn take_met(&mut self) -> impl Iterator<Item = Met> {
-        let bits = std::mem::take(&mut self.met);
-        Met::all().filter(move |met| bits & (1 << met.index()) != 0)
+        let shown = std::mem::replace(&mut self.met, NOTHING);
+        Met::all().filter(move |met| shown[met.index()])
     }
 
     fn meet(&mut self, met: Met) {
-        self.met |= 1 << met.index();
+        self.met[met.index()] = true;
     }
 
     /// Counts a call, and tells the answer where both give the same.

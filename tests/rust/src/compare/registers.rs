@@ -1,6 +1,5 @@
 //! What a trace shows of register blocks: of a second one in a frame, and of what is none.
 
-use crate::c::Settings;
 use crate::letters::{Frame, Frames};
 use crate::second::Refusal;
 
@@ -64,11 +63,10 @@ impl Registers {
         Registers::SeveralVariables,
     ];
 
-    /// What a file with this refusal shows; whether the other base shows something is not told.
-    pub fn of_file(settings: Settings, file: &[u8], refusal: u8) -> Vec<Registers> {
-        let Some(Frames { frames, end, .. }) = Frames::read(settings, file) else { return Vec::new() };
+    /// What a trace with this refusal shows; whether the other base shows something is not told.
+    pub fn of_trace(Frames { frames, end, .. }: &Frames, refusal: u8) -> Vec<Registers> {
         if refusal == 0 {
-            return chosen(frames.iter().flat_map(of_sound).chain([(Registers::TwoFrames, neighbours(&frames))]));
+            return chosen(frames.iter().flat_map(of_sound).chain([(Registers::TwoFrames, neighbours(frames))]));
         }
         let Some(n) = frames.iter().position(is_refused) else { return Vec::new() };
         let (before, [frame, behind @ ..]) = frames.split_at(n) else { return Vec::new() };

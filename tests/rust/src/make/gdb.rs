@@ -259,6 +259,10 @@ pub fn memory_at(order: u8, address: u64, bytes: &[u8]) -> Vec<u8> {
 
 pub fn variable(random: &mut Random, order: u8) -> Vec<u8> {
     let number = random.pick(&[0, 1, 1, 2, 3, 0x4D4D_4D4D, 1 << 31, u32::MAX]);
+    variable_of(random, order, number)
+}
+
+pub fn variable_of(random: &mut Random, order: u8, number: u32) -> Vec<u8> {
     let value = match random.below(4) {
         0 => random.pick(&[0, 1, -1, -2, i64::MIN, i64::MAX]),
         1 => random.below(1_000) as i64 - 500,

@@ -11,6 +11,7 @@ pub mod register_edges;
 pub mod selection;
 pub mod settings;
 pub mod size_edges;
+pub mod variable_edges;
 
 pub use random::Random;
 
@@ -56,12 +57,13 @@ pub struct MadeTrace {
 pub fn any_trace(random: &mut Random) -> MadeTrace {
     let settings = settings::right(random);
     let trace = Trace::valid(random, settings);
-    let made = match random.below(12) {
+    let made = match random.below(13) {
         0..=2 => Made::new("valid", trace.bytes(), Some(0)),
         3 => damage::shortened(random, trace.bytes()),
         4 | 5 => damage::damaged(random, trace.bytes()),
         6 => random.pick(&size_edges::EDGES)(random, settings),
         7 | 8 => random.pick(&register_edges::EDGES)(random, settings),
+        9 => random.pick(&variable_edges::EDGES)(random, settings),
         _ => random.pick(&gdb_edges::EDGES)(random, settings),
     };
     let partner = partner(random, &trace, &made);

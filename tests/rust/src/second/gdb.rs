@@ -240,13 +240,13 @@ impl<'a> Trace<'a> {
         found.ok_or(Refusal::NotFound)
     }
 
-    /// The value in frame n's earliest variable block with this number.
+    /// The value in frame n's latest variable block with this number.
     pub fn variable(&self, n: usize, wanted: u32) -> Result<i64, Refusal> {
-        let found = self.blocks(n)?.find_map(|block| match block.kind {
+        let values = self.blocks(n)?.filter_map(|block| match block.kind {
             BlockKind::Variable { number, value } if number == wanted => Some(value),
             _ => None,
         });
-        found.ok_or(Refusal::NotFound)
+        values.last().ok_or(Refusal::NotFound)
     }
 }
 

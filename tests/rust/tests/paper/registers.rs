@@ -1,11 +1,8 @@
 //! The cases of request C-20: a second register block in a frame, in both byte orders and both bases.
 
-use super::{edited, every_call_refuses, trace, BIG, LITTLE, LITTLE_TEN};
-use tufakpeni_tests::c::{Block, Count, Place, Range, Selection, Settings, Value};
+use super::{edited, every_call_refuses, trace, with_frames, ALL, BIG, BIG_TEN, LITTLE, LITTLE_TEN};
+use tufakpeni_tests::c::{Block, Count, Place, Range, Selection, Value};
 use tufakpeni_tests::reader::Reader;
-
-const BIG_TEN: Settings = Settings { order: 1, base: 10 };
-const ALL: [Settings; 4] = [LITTLE, LITTLE_TEN, BIG, BIG_TEN];
 
 /// Memory of no bytes at address 0 and variable 0 of value -1: the same in both byte orders.
 const MEMORY: &[u8] = b"M\0\0\0\0\0\0\0\0\0\0";
@@ -19,21 +16,6 @@ pub fn all(reader: &Reader) {
     letters_in_bytes(reader);
     bases(reader);
     edits(reader);
-}
-
-/// A frame of number 7 with these data, in the byte order of the settings.
-fn frame(settings: Settings, data: &[u8]) -> Vec<u8> {
-    let (number, size) = (7_u16, data.len() as u32);
-    match settings.order {
-        0 => [&number.to_le_bytes(), &size.to_le_bytes()[..], data].concat(),
-        _ => [&number.to_be_bytes(), &size.to_be_bytes()[..], data].concat(),
-    }
-}
-
-/// A trace with this description and a frame for each of these data.
-fn with_frames(settings: Settings, lines: &[u8], frames: &[&[u8]]) -> Vec<u8> {
-    let frames: Vec<_> = frames.iter().map(|data| frame(settings, data)).collect();
-    trace(&[lines, b"\n", &frames.concat()].concat())
 }
 
 /// Holds a trace to its refusal, from every call, or to the number of its frames.
