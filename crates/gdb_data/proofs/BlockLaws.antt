@@ -31,7 +31,7 @@ use Rattle.gdb_format.specs.ExactBlock.{takes-blockOf, letter-read}
 use Rattle.gdb_format.specs.declared.Format.{Format}
 use Rattle.gdb_format.specs.declared.RegisterSize.{RegisterSize}
 use Rattle.gdb_format.specs.declared.RegisterSize.the-variants.{Unknown, Bytes}
-use Rattle.gdb_data.specs.Blocks.{Carried, registers, memory, variable, carriedBy, blockSeen, kindAt, endMeaning, NoOther}
+use Rattle.gdb_data.specs.Blocks.{Carried, registers, memory, variable, carriedBy, blockSeen, kindAt, hasNumber, numberAt, endMeaning, NoOther}
 use Rattle.gdb_data.specs.declared.BlockEnd.{BlockEnd}
 use Rattle.gdb_data.specs.declared.BlockEnd.the-variants as blockend
 
@@ -184,6 +184,18 @@ module _ {f : Format} {d : List ℕ} {at : ℕ} (h : LetterAt f d at) where
     unfolding blockOf
     is-first e s g = rw (letter-read f size seen d at (h .inside), e, s) g
 
+-- ---- what a block carries says whether it is one of variable n
+
+abbrev carriesNumber : ℕ → Carried → Bool
+carriesNumber n registers = false
+carriesNumber n (memory a k) = false
+carriesNumber n (variable m v) = eqb m n
+
+number-carried : (n : ℕ) (b : Block) → hasNumber n b ≡ carriesNumber n (carriedBy b)
+number-carried n (trace.registers b) = refl
+number-carried n (trace.memory a b) = refl
+number-carried n (trace.variable m v) = refl
+
 -- ---- a block that was judged
 
 -- r tells where the block at `at` ends
@@ -254,19 +266,43 @@ module _ {f : Format} {size : Option ℕ} {seen : Bool} {d : List ℕ} {at : ℕ
       by true i = eqb-true (getD d at 0) 82 i
       by false i = never (is-none letter size seen (eqb-false (getD d at 0) 82 i) o ∙ sym (at-case endMeaning e (h .answers)))
 
--- ---- a block's record
+  -- a block that is read is one of variable n exactly where its letter and number say so
+  pub number-read : (n : ℕ) {m : ℕ} (e : r ≡ blockend.At m) → hasNumber n ((block-read e) .value) ≡ numberAt f d at n
+  number-read n {m} e =
+      let b = block-read e in
+      number-carried n (b .value) ∙ ap (carriesNumber n) (b .carried)
+      ∙ by (eqb (getD d at 0) 0x52) (eqb (getD d at 0) 0x4D) (eqb (getD d at 0) 0x56) refl refl refl
+    where
+      by : (p q t : Bool) → eqb (getD d at 0) 0x52 ≡ p → eqb (getD d at 0) 0x4D ≡ q → eqb (getD d at 0) 0x56 ≡ t
+          → carriesNumber n (cond p registers
+          (cond q (memory (wordAt (f .order) 8 d (at + 1)) (wordAt (f .order) 2 d (at + 9)))
+          (variable (wordAt (f .order) 4 d (at + 1)) (signed64 (wordAt (f .order) 8 d (at + 5))))))
+          ≡ t && eqb (wordAt (f .order) 4 d (at + 1)) n
+      by true q true i j k = absurd (omega (arith, eqb-true (getD d at 0) 82 i, eqb-true (getD d at 0) 86 k))
+      by false true true i j k = absurd (omega (arith, eqb-true (getD d at 0) 77 j, eqb-true (getD d at 0) 86 k))
+      by false false true i j k = refl
+      by true q false i j k = refl
+      by false true false i j k = refl
+      by false false false i j k = absurd (eqb-false (getD d at 0) 82 i (registers-read (eqb-false (getD d at 0) 77 j, eqb-false (getD d at 0) 86 k) e))
+
+-- ---- what a step shows
 
 module _ {f : Format} {size : Option ℕ} {d : List ℕ} {at : ℕ} {r : BlockEnd} (h : Ended f size false d at r) where
-  abbrev Shown : Answer (Option ((ℕ × Carried) × ℕ)) → Type 0
-  Shown x = x ≡ stepAt blockSeen (block f size) d at
-
-  pub shown-refused : {n : ℕ} → r ≡ blockend.Refused n → Shown (refused n)
+  pub shown-refused : {C : Type 0} (view : ℕ → Block → C) {n : ℕ} → r ≡ blockend.Refused n → refused n ≡ stepAt view (block f size) d at
   unfolding block
-  shown-refused {n} e = sym (step-fault blockSeen (block f size) d at n (h .inside) (block-refused h e))
+  shown-refused view {n} e = sym (step-fault view (block f size) d at n (h .inside) (block-refused h e))
 
-  pub shown-block : {m : ℕ} → r ≡ blockend.At m → {k : Carried} → k ≡ kindAt f d at → Shown (accepted (some ((at, k), m)))
+  shown-as : {C : Type 0} (view : ℕ → Block → C) {m : ℕ} (e : r ≡ blockend.At m) {v : C} → v ≡ view at ((block-read h e) .value)
+      → accepted (some (v, m)) ≡ stepAt view (block f size) d at
   unfolding block
-  shown-block {m} e g =
+  shown-as view {m} e g =
       let b = block-read h e in
-      ap (λ k. accepted (some ((at, k), m))) (g ∙ sym (b .carried))
-      ∙ sym (step-read blockSeen (block f size) d at (b .value) m (h .inside) (b .within) (b .reads))
+      ap (λ v. accepted (some (v, m))) g ∙ sym (step-read view (block f size) d at (b .value) m (h .inside) (b .within) (b .reads))
+
+  pub shown-block : {m : ℕ} → r ≡ blockend.At m → {k : Carried} → k ≡ kindAt f d at
+      → accepted (some ((at, k), m)) ≡ stepAt blockSeen (block f size) d at
+  shown-block e g = shown-as blockSeen e (ap (λ k. (at, k)) (g ∙ sym ((block-read h e) .carried)))
+
+  pub shown-number : (n : ℕ) {m : ℕ} → r ≡ blockend.At m → {t : Bool} → t ≡ numberAt f d at n
+      → accepted (some (t, m)) ≡ stepAt (λ i b. hasNumber n b) (block f size) d at
+  shown-number n e g = shown-as (λ i b. hasNumber n b) e (g ∙ sym (number-read h n e))

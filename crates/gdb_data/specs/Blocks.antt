@@ -1,7 +1,7 @@
 -- What the steps over a frame's blocks answer, in the paper's terms.
 -- Assumes nothing: these are definitions.
 use mathlib.Core.Path.{_≡_}
-use mathlib.Core.Bool.{Bool, cond}
+use mathlib.Core.Bool.{Bool, true, false, cond, _&&_}
 use mathlib.Core.Option.{Option, none, some}
 use Prim.Native.Nat.{ℕ, _+_, _<_, _≤_}
 use mathlib.Core.List.{List}
@@ -21,6 +21,8 @@ use Rattle.gdb_data.specs.declared.BlockKind.the-variants.{Registers, Me
 use Rattle.gdb_data.specs.declared.BlockRecord.{BlockRecord}
 use Rattle.gdb_data.specs.declared.BlockStep.{BlockStep}
 use Rattle.gdb_data.specs.declared.BlockStep.the-variants as step
+use Rattle.gdb_data.specs.declared.VariableStep.{VariableStep}
+use Rattle.gdb_data.specs.declared.VariableStep.the-variants as variablestep
 use Rattle.gdb_data.specs.declared.BlockEnd.{BlockEnd}
 use Rattle.gdb_data.specs.declared.BlockEnd.the-variants as blockend
 use Rattle.gdb_data.specs.declared.OtherBlock.{OtherBlock}
@@ -65,6 +67,23 @@ kindAt f d at =
     cond (eqb (getD d at 0) 0x52) registers
     (cond (eqb (getD d at 0) 0x4D) (memory (wordAt (f .order) 8 d (at + 1)) (wordAt (f .order) 2 d (at + 9)))
     (variable (wordAt (f .order) 4 d (at + 1)) (signed64 (wordAt (f .order) 8 d (at + 5)))))
+
+-- whether a block is one of variable n: a `V` block with that number
+abbrev pub hasNumber : ℕ → Block → Bool
+hasNumber n (trace.registers b) = false
+hasNumber n (trace.memory a b) = false
+hasNumber n (trace.variable m v) = eqb m n
+
+-- what `VariableStep` says: whether the block is one of the variable, and the place after it
+abbrev pub variableStepMeaning : VariableStep → Answer (Option (Bool × ℕ))
+variableStepMeaning variablestep.End = accepted none
+variableStepMeaning (variablestep.Own m) = accepted (some (true, m))
+variableStepMeaning (variablestep.Other m) = accepted (some (false, m))
+variableStepMeaning (variablestep.Refused n) = refused n
+
+-- the letter at `at` is `V`, and the number behind it n
+abbrev pub numberAt : Format → List ℕ → ℕ → ℕ → Bool
+numberAt f d at n = eqb (getD d at 0) 0x56 && eqb (wordAt (f .order) 4 d (at + 1)) n
 
 -- of a block that is passed over nothing is told but where it ends
 abbrev pub endMeaning : BlockEnd → Answer (Unit {0} × ℕ)

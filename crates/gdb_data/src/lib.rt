@@ -9,7 +9,7 @@ ghost use Rattle.gdb_format.specs.Opening.{sizeMeaning};
 ghost use Rattle.gdb_format.specs.Decode.{memoryBlock, blockAfter, block};
 ghost use Rattle.gdb_format.specs.declared.Format.{Format};
 ghost use Rattle.gdb_data.specs.Blocks.{kindMeaning, kindAt, blockStepMeaning, blockSeen, endMeaning, verdictMeaning, blocksFill};
-ghost use Rattle.gdb_data.specs.Blocks.{NoOther, OtherAt, StopsAt};
+ghost use Rattle.gdb_data.specs.Blocks.{hasNumber, variableStepMeaning, numberAt, NoOther, OtherAt, StopsAt};
 use gdb_format::Format;
 use gdb_format::RegisterSize;
 use refusals::BAD_LETTER;
@@ -160,6 +160,51 @@ pub fn block_at(format: Format, size: RegisterSize, d: &[u8], at: usize) -> Bloc
             },
             next,
         },
+    }
+}
+
+// What stands where a block may start, for a search for one variable: the end of the data, a block of the variable or another, each with the place
+// after it, or a refusal. A walk over many blocks asks for no more than it needs.
+pub enum VariableStep {
+    End,
+    Own(usize),
+    Other(usize),
+    Refused(u8),
+}
+
+// Whether the letter at `at` is `V`, and the number behind it this one.
+fn has_number(format: Format, d: &[u8], at: usize, number: u32) -> bool
+    requires { ⌜ at < length (now d) ⌝ }
+    ensures { λ r. ⌜ r ≡ numberAt format (now (d .entry)) at number ⌝ }
+{
+    if d[at] != 86 {
+        return false;
+    }
+    let order = format.order;
+    fields::u32_at(d, order, at + 1) == number
+}
+
+// What stands at `at`, as `block_at` has it, told by whether it is a block of variable `number`.
+pub fn variable_at(
+    format: Format,
+    size: RegisterSize,
+    d: &[u8],
+    at: usize,
+    number: u32,
+) -> VariableStep
+    ensures { λ r. ⌜ variableStepMeaning r ≡ stepAt (λ i b. hasNumber number b) (block format (sizeMeaning size)) (now (d .entry)) at ⌝ }
+{
+    if d.len() <= at {
+        return VariableStep::End;
+    }
+    match block_end(format, size, d, at) {
+        BlockEnd::Refused(n) => VariableStep::Refused(n),
+        BlockEnd::At(next) => {
+            if has_number(format, d, at, number) {
+                return VariableStep::Own(next);
+            }
+            VariableStep::Other(next)
+        }
     }
 }
 
