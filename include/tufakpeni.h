@@ -26,7 +26,7 @@ extern "C" {
 /* The number of the library's interface. */
 uint64_t tfk_interface(void);
 
-/* Whether the library is one of this header. */
+/* Whether the library has the structs, calls and numbers of this header. */
 #define TFK_FITS() (tfk_interface() == TFK_INTERFACE)
 
 /* The refusals: 1 to 18, and 24. */

@@ -8,11 +8,11 @@
 #include <stdlib.h>
 
 enum { BLOCKS = 6, REGISTERS = 13, MEMORY_AT = 7 };
-/* The number that is asked for, and one that reads so in the other byte order. */
-enum { NUMBER = 0x01020304, OTHER = 0x04030201 };
+/* The number that is asked for, one that reads so in the other byte order, and one that differs in the highest byte. */
+enum { NUMBER = 0x01020304, OTHER = 0x04030201, HIGHER = 0x02020304 };
 
 /*
- * A block by its letter. `V` has the number asked for and `W` another, both the value; memory (`m`) and registers (`r`)
+ * A block by its letter. `V` has the number asked for, `W` and `X` others, each the value; memory (`m`) and registers (`r`)
  * have the bytes of a whole `V` block with the number asked for and the value.
  */
 typedef struct {
@@ -42,19 +42,15 @@ static const row ROWS[] = {
     {"two, others behind them", {{'V', 5}, {'V', 6}, {'W', 9}, {'m', 9}, {'r', 9}}, 0, 6},
     {"two of each number in turn", {{'V', 5}, {'W', 8}, {'V', 6}, {'W', 9}}, 0, 6},
     {"three side by side", {{'V', 5}, {'V', 7}, {'V', 6}}, 0, 6},
+    {"three, the first value again", {{'V', 5}, {'V', 6}, {'V', 5}}, 0, 5},
     {"three apart", {{'V', 5}, {'W', 9}, {'V', 7}, {'r', 9}, {'V', 6}, {'m', 9}}, 0, 6},
     {"a number in memory bytes alone", {{'m', 9}}, TFK_NOT_FOUND, 0},
     {"a number in register bytes alone", {{'W', 8}, {'r', 9}}, TFK_NOT_FOUND, 0},
+    {"a number that differs in its highest byte", {{'V', 5}, {'X', 9}}, 0, 5},
+    {"such a number alone", {{'X', 9}}, TFK_NOT_FOUND, 0},
     {"another number alone", {{'W', 8}, {'W', 9}}, TFK_NOT_FOUND, 0},
     {"no block", {{0}}, TFK_NOT_FOUND, 0},
 };
-
-static void put_variable(made *data, uint32_t number, int64_t value)
-{
-    PUT(data, "V");
-    put_number(data, number, 4);
-    put_number(data, (uint64_t)value, 8);
-}
 
 static void put_block(made *data, part block)
 {
@@ -65,7 +61,9 @@ static void put_block(made *data, part block)
     } else if (block.letter == 'r') {
         PUT(data, "R");
     }
-    put_variable(data, block.letter == 'W' ? OTHER : NUMBER, block.value);
+    PUT(data, "V");
+    put_number(data, block.letter == 'W' ? OTHER : block.letter == 'X' ? HIGHER : NUMBER, 4);
+    put_number(data, (uint64_t)block.value, 8);
 }
 
 static void put_frame(made *file, const row *given)

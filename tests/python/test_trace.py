@@ -226,7 +226,7 @@ class Blocks(Case):
         """Among others, and bytes that look like a later block of it."""
         for made in BOTH:
             like = made.variable(1, 9)
-            for values in ((5,), (5, 6), (6, 5), (5, -1), (5, 7, 6), (6, 6, 6, -2 ** 63)):
+            for values in ((5,), (5, 6), (6, 5), (5, -1), (5, 7, 6), (5, 6, 5), (6, 6, 6, -2 ** 63)):
                 blocks = [made.variable(1, value) + made.variable(2, ~value) + made.memory(7, like) for value in values]
                 frames = made.frame(1, *blocks, made.registers(like)), made.frame(1, like), made.frame(1)
                 file = made.trace(['R d'], *frames)

@@ -33,7 +33,7 @@ UNMARKED = {'resave'}
 # The head of the frame that gdbserver broke: gdb reads the five frames before it.
 CIRCULAR_BROKEN_AT = 29_678
 
-# Where variable 2 is collected before and after a step: by frame, its values in the order of its blocks.
+# Where variable 2 is collected, changed and collected again: by frame, its values in the order of its blocks.
 TWO_VALUES = {
     'raw': {0: [-2, -1], 2: [-1, 0], 4: [0, 1]},
     's390x': {0: [-1, -3], 1: [-3, -9], 2: [-9, -27], 3: [-27, -81], 4: [-81, -243]},
@@ -202,8 +202,8 @@ def test_decimal_digits(report):
 
 
 def test_two_values(report):
-    """In three files variable 2 is collected before and after a step, so that a frame has two values of it. The later one
-    is answered, and it is the one that gdb shows."""
+    """In three files variable 2 is collected, changed and collected again, so that a frame has two values of it. The
+    later one is answered, and it is the one that gdb shows."""
     for name, values in TWO_VALUES.items():
         with report.case(f'{name}: the later of two values'):
             file = sound_part(name, (FOLDER / f'{name}.tf').read_bytes())

@@ -68,7 +68,7 @@ def registers(frame):
 
 
 def variables(frame):
-    """Each variable once, and how many blocks it has. Which of them counts is for the library to say."""
+    """Each variable once, with the value of its latest block."""
     blocks = collections.Counter(block.number for block in frame.blocks if isinstance(block, Variable))
     for number, count in blocks.items():
         yield f'variable {number} = {frame.variable(number)}' + (f', the last of {count} blocks' if count > 1 else '')

@@ -29,6 +29,10 @@ pub each-append : {A : Type 0} (P : A → Type 0) (l m : List A) → Each P l �
 each-append P [] m h k = k
 each-append P (x ∷ l) m h k = (h .0, each-append P l m (h .1) k)
 
+pub each-map : {A : Type 0} {P Q : A → Type 0} → ((x : A) → P x → Q x) → (l : List A) → Each P l → Each Q l
+each-map f [] h = tt
+each-map f (x ∷ l) h = (f x (h .0), each-map f l (h .1))
+
 -- from a contradiction anything follows
 pub clash : {X : Type 0} → _≡_ {A = ℕ} 0 1 → X
 clash e = absurd (omega arith)

@@ -6,11 +6,11 @@ use mathlib.Core.Bool.{Bool, true, false, cond}
 use mathlib.Core.Logic.{_↔_}
 use mathlib.Core.Option.{Option, none, some, Option·some-injective}
 use Prim.Native.Nat.{ℕ}
-use mathlib.Core.List.{List, [], _∷_, _++_}
+use mathlib.Core.List.{List, _∷_, _++_}
 use lib.IntN.{ℤ}
 use lib.Dec.{eqb}
 use borrow.Author.Tests.{eqb-true, eq-eqb}
-use Rattle.fields.specs.Lists.{Each, clash}
+use Rattle.fields.specs.Lists.{Each, each-map, clash}
 use Rattle.fields.specs.Answer.{accepted, next-inv}
 use Rattle.fields.specs.Element.{nth}
 use Rattle.gdb_format.specs.Trace.{Block, registers, memory, variable, Frame, Trace}
@@ -64,10 +64,6 @@ other-back v (variable m y) h = by (eqb m v) refl
     by true i = absurd (h y (ap (λ k. variable k y) (eqb-true m v i)))
     by false i = refl
 
-each-other : {P Q : Block → Type 0} → ((z : Block) → P z → Q z) → (zs : List Block) → Each P zs → Each Q zs
-each-other h [] k = tt
-each-other h (z ∷ zs) k = (h z (k .0), each-other h zs (k .1))
-
 -- ---- the question
 
 pub variable-exactly : (s : Settings) (b : List ℕ) (n v : ℕ) (x : ℤ) → (asked s b (variableAt n v) ≡ accepted x) ↔ LatestValue s b n v x
@@ -87,7 +83,7 @@ variable-exactly s b n v x = (forth, back)
           was-read = u .1;
           is-frame = w .1;
           blocks-are = q .split ∙ ap (λ z. q .before ++ z ∷ q .after) (value-forth v (q .element) x (q .finds));
-          none-later = each-other (other-forth v) (q .after) (q .none-after);
+          none-later = each-map (other-forth v) (q .after) (q .none-after);
         }
 
     found : (q : LatestValue s b n v x) → Latest (valueOf v) (q .frame .blocks) x
@@ -97,7 +93,7 @@ variable-exactly s b n v x = (forth, back)
           element = variable v x;
           after = q .after;
           split = q .blocks-are;
-          none-after = each-other (other-back v) (q .after) (q .none-later);
+          none-after = each-map (other-back v) (q .after) (q .none-later);
           finds = value-back v (variable v x) x refl;
         }
 

@@ -14,6 +14,7 @@ use Rattle.gdb_frames.specs.Questions.{asked}
 use Rattle.gdb_frames.specs.Numbers.{questionNumbers, asked-numbers}
 use Rattle.gdb_blocks.specs.Search.{registersIn, memoryIn, inFrame, nthSeen, blockAt, registersAt, memoryAt, variableAt}
 use Rattle.gdb_blocks.specs.Earliest.{orLater, earliest}
+use Rattle.gdb_blocks.specs.Latest.{latest}
 use Rattle.gdb_blocks.specs.Held.{valueOf}
 
 earliest-numbers : {P : ℕ → Type 0} {A B : Type 0} (g : A → Option B) (xs : List A) → P notFound → Refuses P (earliest g xs)
@@ -23,6 +24,9 @@ earliest-numbers {P} {B} g (x ∷ xs) h = by (g x) (earliest-numbers g xs h)
     by : (y : Option B) {later : Answer B} → Refuses P later → Refuses P (orLater y later)
     by none h = h
     by (some y) h = refuses-never
+
+latest-numbers : {P : ℕ → Type 0} {A B : Type 0} (g : A → Option B) (xs : List A) → P notFound → Refuses P (latest g xs)
+latest-numbers g xs h = earliest-numbers g (reverse xs) h
 
 module _ (s : Settings) (b : List ℕ) (n : ℕ) where
   in-frame-numbers : {B : Type 0} {q : List (ℕ × Block) → Answer B}
@@ -39,4 +43,4 @@ module _ (s : Settings) (b : List ℕ) (n : ℕ) where
   memory-place-numbers a = in-frame-numbers (λ bs. earliest-numbers (memoryIn a) bs tt)
 
   pub variable-numbers : (v : ℕ) → Refuses (OneOf questionNumbers) (asked s b (variableAt n v))
-  variable-numbers v = asked-numbers s b _ (λ f t. refuses-next (nth-numbers (t .frames) n tt) (λ r. earliest-numbers (valueOf v) (reverse (r .blocks)) tt))
+  variable-numbers v = asked-numbers s b _ (λ f t. refuses-next (nth-numbers (t .frames) n tt) (λ r. latest-numbers (valueOf v) (r .blocks) tt))

@@ -203,6 +203,12 @@ pub record Ended (f : Format) (size : Option ℕ) (seen : Bool) (d : List ℕ) (
   pub inside : at < length d
   pub answers : endMeaning r ≡ passAt (blockAfter f size seen) d at
 
+-- a block by itself, as `block_end` judges it
+pub judged : {f : Format} {size : Option ℕ} {d : List ℕ} {at : ℕ} {r : BlockEnd} → at < length d → endMeaning r ≡ passAt (block f size) d at
+    → Ended f size false d at r
+unfolding block
+judged h e = record { inside = h; answers = e }
+
 -- the block that ends at m
 pub record BlockRead (f : Format) (size : Option ℕ) (seen : Bool) (d : List ℕ) (at m : ℕ) : Type 0 where
   pub value : Block

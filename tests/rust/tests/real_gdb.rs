@@ -147,6 +147,7 @@ impl<'s> Checked<'s> {
             assert_eq!(read, bytes.trim_matches('"'), "{told}");
         }
         let values: HashMap<_, _> = values(line).into_iter().collect();
+        assert!(values.keys().all(|name| self.variables.contains_key(*name)), "{told}");
         for (name, &number) in &self.variables {
             let answer = (self.reader.variable)(self.settings, &self.bytes, n, number);
             let shown = (answer.refusal == 0).then(|| answer.value.to_string());

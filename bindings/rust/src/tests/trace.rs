@@ -252,7 +252,7 @@ fn collected(order: Order, values: &[i64]) -> Vec<u8> {
 #[test]
 fn the_latest_block_of_a_variable_counts() {
     for order in ORDERS {
-        for values in [&[5][..], &[5, 6], &[6, 5], &[5, -1], &[5, 7, 6], &[6, 6, 6, i64::MIN]] {
+        for values in [&[5][..], &[5, 6], &[6, 5], &[5, -1], &[5, 7, 6], &[5, 6, 5], &[6, 6, 6, i64::MIN]] {
             let file = collected(order, values);
             let (trace, pair) = (Trace::open(order, &file).unwrap(), Pair::new(order, &file, &file));
             for number in [1, 2] {

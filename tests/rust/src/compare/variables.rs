@@ -15,6 +15,8 @@ pub enum Variables {
     Apart,
     /// Three or more, the latest unlike the first and the one before it.
     Three,
+    /// Three or more, the latest like the first, and another value between them.
+    Back,
     /// Several of unlike values, and a later block with another number.
     OtherBehind,
     /// Bytes of a later block that are a whole block of it, with another value: of memory, of registers.
@@ -28,13 +30,14 @@ pub enum Variables {
 }
 
 impl Variables {
-    pub const ALL: [Variables; 12] = [
+    pub const ALL: [Variables; 13] = [
         Variables::First,
         Variables::Last,
         Variables::Between,
         Variables::SideBySide,
         Variables::Apart,
         Variables::Three,
+        Variables::Back,
         Variables::OtherBehind,
         Variables::InMemory,
         Variables::InRegisters,
@@ -83,6 +86,7 @@ fn of_several(frame: &Frame, number: [u8; 4], blocks: &[(usize, &[u8])]) -> Vec<
         (Variables::SideBySide, two && unlike && latest.0 == before.0 + 1),
         (Variables::Apart, two && unlike && latest.0 > before.0 + 1),
         (Variables::Three, !two && unlike && latest.1 != before.1),
+        (Variables::Back, blocks[0].1 == latest.1 && blocks.iter().any(|block| block.1 != latest.1)),
         (Variables::OtherBehind, unlike && frame.with_letter(b'V').filter(other).any(|(place, _)| place > latest.0)),
     ]
 }

@@ -4,6 +4,7 @@ use super::gdb::{block, memory_at, variable_of, Frame, Trace};
 use super::gdb_edges::{any_frame, Edge, ACCEPTED};
 use super::{Made, Random};
 use crate::c::Settings;
+use crate::letters::number_bytes;
 
 pub const EDGES: [Edge; 5] = [only_one, several, several_in_each_frame, like_a_block, like_a_block_alone];
 
@@ -29,7 +30,9 @@ fn repeated(random: &mut Random, order: u8, number: u32, count: usize) -> Vec<Ve
 fn only_one(random: &mut Random, settings: Settings) -> Made {
     let (mut trace, n) = any_frame(random, settings, Some(13));
     let number = any_number(random);
+    let own = [&b"V"[..], &number_bytes(settings, number)].concat();
     let mut blocks = others(random, settings.order, number, 5);
+    blocks.retain(|block| !block.starts_with(&own));
     let anywhere = random.below(blocks.len() + 1);
     let place = random.pick(&[0, blocks.len(), anywhere]);
     blocks.insert(place, variable_of(random, settings.order, number));
@@ -57,13 +60,22 @@ fn with_several(random: &mut Random, order: u8) -> Vec<Vec<u8>> {
     let count = random.pick(&[2, 2, 3, 4]);
     let mut blocks = repeated(random, order, number, count);
     let mut around = others(random, order, number, 4);
-    if random.one_in(3) {
-        let behind = around.split_off(around.len() / 2);
-        return [around, blocks, behind].concat();
+    match random.below(4) {
+        0 => {
+            let behind = around.split_off(around.len() / 2);
+            [around, blocks, behind].concat()
+        }
+        1 => {
+            // The first value comes back.
+            let first = blocks[..1].to_vec();
+            [&first[..], &around, &blocks[1..], &first].concat()
+        }
+        _ => {
+            blocks.append(&mut around);
+            random.shuffle(&mut blocks);
+            blocks
+        }
     }
-    blocks.append(&mut around);
-    random.shuffle(&mut blocks);
-    blocks
 }
 
 /// Blocks of a number, and mostly behind them bytes of memory and of registers that are a whole block of it.

@@ -4,9 +4,10 @@ use super::{with_frames, ALL};
 use tufakpeni_tests::c::{Place, Settings, Value};
 use tufakpeni_tests::reader::Reader;
 
-/// A variable's number, and the number that has its bytes in the other byte order.
+/// A variable's number, the number that has its bytes in the other byte order, and numbers that differ in one byte.
 const NUMBER: u32 = 0x0102_0304;
 const OTHER: u32 = NUMBER.swap_bytes();
+const BESIDE: [u32; 4] = [NUMBER ^ 1, NUMBER ^ 1 << 8, NUMBER ^ 1 << 16, NUMBER ^ 1 << 24];
 
 pub fn all(reader: &Reader) {
     for settings in ALL {
@@ -80,6 +81,11 @@ impl Given<'_> {
         self.holds(&[&five, &memory, &six], Some(6));
         self.holds(&[&five, &registers, &other, &six, &memory, &other], Some(6));
         self.holds(&[&five, &seven, &six], Some(6));
+        self.holds(&[&five, &six, &five], Some(5));
+        for beside in BESIDE.map(|number| self.variable(number, 9)) {
+            self.holds(&[&five, &beside], Some(5));
+            self.holds(&[&beside], None);
+        }
         self.holds(&[&other, &five, &memory, &seven, &registers, &six, &other], Some(6));
     }
 

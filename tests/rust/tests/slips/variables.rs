@@ -24,19 +24,37 @@ macro_rules! choosing {
     };
 }
 
+/// A reader that chooses among a variable's values in a frame of a pair that has it.
+macro_rules! in_pair {
+    ($choose:ident) => {
+        Reader {
+            pair_variable: |settings, first, second, n, number| {
+                let right = (SECOND.pair_variable)(settings, first, second, n, number);
+                instead(right, || {
+                    let blocks = blocks_in_pair(settings, first, second, n);
+                    $choose(values(&blocks, number)).map(|value| Value { value, ..right })
+                })
+            },
+            ..SECOND
+        }
+    };
+}
+
 const NONE: Value = Value { refusal: Refusal::NotFound as u8, value: 0 };
 
-pub const SLIPS: [Slip; 10] = [
-    ("the earliest block of a variable", choosing!(|blocks, number| values(&blocks, number).next())),
+pub const SLIPS: [Slip; 12] = [
+    ("the earliest block of a variable", choosing!(|blocks, number| earliest(values(&blocks, number)))),
     ("the second block of a variable", choosing!(|blocks, number| values(&blocks, number).take(2).last())),
     ("the block of a variable before the last", choosing!(|blocks, number| before_last(&blocks, number))),
+    ("the latest value unlike the first", choosing!(|blocks, number| unlike_first(values(&blocks, number)))),
     ("the greatest value of a variable", choosing!(|blocks, number| values(&blocks, number).max())),
     ("the last variable block, of any number", choosing!(|blocks, _number| any_value(&blocks).last())),
     ("the first variable block, of any number", choosing!(|blocks, _number| any_value(&blocks).next())),
     ("a variable's block only where it ends the frame", choosing!(|blocks, number| at_end(&blocks, number))),
     ("a variable's block looked for in all bytes", Reader { variable: in_other_bytes, ..SECOND }),
     ("a variable that only bytes have", Reader { variable: in_bytes_alone, ..SECOND }),
-    ("the earliest block of a variable in a pair", Reader { pair_variable: earliest_in_pair, ..SECOND }),
+    ("the earliest block of a variable in a pair", in_pair!(earliest)),
+    ("the latest value unlike the first in a pair", in_pair!(unlike_first)),
 ];
 
 fn value(block: &Block, number: u32) -> Option<i64> {
@@ -82,12 +100,17 @@ fn in_bytes_alone(settings: Settings, file: &[u8], n: usize, number: u32) -> Val
     right
 }
 
-fn earliest_in_pair(settings: Settings, first: &[u8], second: &[u8], n: usize, number: u32) -> Value {
-    let right = (SECOND.pair_variable)(settings, first, second, n, number);
-    instead(right, || {
-        let count = (SECOND.frame_count)(settings, first).count;
-        let (file, n) = if n < count { (first, n) } else { (second, n - count) };
-        let value = values(&blocks(settings, file, n).collect::<Vec<_>>(), number).next()?;
-        Some(Value { value, ..right })
-    })
+fn blocks_in_pair(settings: Settings, first: &[u8], second: &[u8], n: usize) -> Vec<Block> {
+    let count = (SECOND.frame_count)(settings, first).count;
+    let (file, n) = if n < count { (first, n) } else { (second, n - count) };
+    blocks(settings, file, n).collect()
+}
+
+fn earliest(mut values: impl Iterator<Item = i64>) -> Option<i64> {
+    values.next()
+}
+
+fn unlike_first(mut values: impl Iterator<Item = i64>) -> Option<i64> {
+    let first = values.next()?;
+    values.filter(|&value| value != first).last().or(Some(first))
 }
