@@ -21,7 +21,7 @@ extern "C" {
 #endif
 
 /* The number of this interface. It changes with every struct, call and number of this header. */
-#define TFK_INTERFACE 4
+#define TFK_INTERFACE 5
 
 /* The number of the library's interface. */
 uint64_t tfk_interface(void);
@@ -103,11 +103,15 @@ typedef struct {
     size_t length;
 } tfk_line;
 
-/* A frame's tracepoint number, and the place and size of its data. */
+/* A frame's tracepoint number, and the place and size of its data. `has_registers` is 1 where it has an R block and 0 where it has none;
+ * `registers_place` is the place of that block's bytes, behind its letter, and 0 where there is none. Where it is 1, tfk_registers_place answers
+ * that place for the frame, and where it is 0, it refuses with 12. There are as many bytes as the R line says, maybe none. */
 typedef struct {
     uint16_t tracepoint;
+    uint8_t has_registers;
     size_t place;
     size_t size;
+    size_t registers_place;
 } tfk_frame;
 
 /* A block: its letter ('R', 'M' or 'V'), and the place of that letter. Memory has address and length, a variable number and value; what a

@@ -33,7 +33,7 @@ fn declared() -> Vec<String> {
         tfk_mark Mark { refusal, marked }
         tfk_place Place { refusal, place, length }
         tfk_line Line { refusal, kind, place, length }
-        tfk_frame Frame { tracepoint, place, size }
+        tfk_frame Frame { tracepoint, has_registers, place, size, registers_place }
         tfk_block Block { refusal, letter, number, place, address, length, value }
         tfk_value Value { refusal, value }
         tfk_range Range { low, high }

@@ -14,7 +14,7 @@ VARIABLE = 'TUFAKPENI_LIBRARY'
 NAME = 'libtufakpeni.so'
 
 # The number of the interface that is declared here, as include/tufakpeni.h had it.
-INTERFACE = 4
+INTERFACE = 5
 
 MAKE = f"""Make it in the repository's root by
     rt staticlib trace_c
@@ -42,7 +42,8 @@ Count = struct('Count', refusal=c_uint8, count=c_size_t)
 Mark = struct('Mark', refusal=c_uint8, marked=c_uint8)
 Place = struct('Place', refusal=c_uint8, place=c_size_t, length=c_size_t)
 Line = struct('Line', refusal=c_uint8, kind=c_uint8, place=c_size_t, length=c_size_t)
-FrameRecord = struct('FrameRecord', tracepoint=c_uint16, place=c_size_t, size=c_size_t)
+FrameRecord = struct('FrameRecord', tracepoint=c_uint16, has_registers=c_uint8, place=c_size_t, size=c_size_t,
+                     registers_place=c_size_t)
 Block = struct('Block', refusal=c_uint8, letter=c_uint8, number=c_uint32, place=c_size_t, address=c_uint64,
                length=c_size_t, value=c_int64)
 Value = struct('Value', refusal=c_uint8, value=c_int64)

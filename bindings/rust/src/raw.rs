@@ -43,8 +43,10 @@ pub struct Line {
 #[derive(Clone, Copy, Debug)]
 pub struct Frame {
     pub tracepoint: u16,
+    pub has_registers: u8,
     pub place: usize,
     pub size: usize,
+    pub registers_place: usize,
 }
 
 #[repr(C)]
@@ -130,7 +132,7 @@ pub struct CpuRange {
 }
 
 /// The number of the interface that is declared here, as include/tufakpeni.h had it.
-const INTERFACE: u64 = 4;
+const INTERFACE: u64 = 5;
 
 extern "C" {
     fn tfk_interface() -> u64;

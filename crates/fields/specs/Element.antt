@@ -1,13 +1,13 @@
 -- Element n of a list, or 12 where there is none.
 -- Assumes nothing.
-use mathlib.Core.Path.{_≡_, refl, sym, ap, _∙_, subst}
+use mathlib.Core.Path.{_≡_, refl, sym, ap, ap₂, _∙_, subst}
 use mathlib.Core.Bool.{Bool, true}
 use Prim.Native.Nat.{ℕ, zero, suc, _+_, _≤_}
 use native.Mathlib.Omega.{arith}
-use mathlib.Core.List.{List, [], _∷_}
+use mathlib.Core.List.{List, [], _∷_, map}
 use Rattle.refusals.specs.Refusal.{notFound}
 use Rattle.fields.specs.Lists.{Each, one, count, AtMostOne}
-use Rattle.fields.specs.Answer.{Answer, accepted, refused, never, accepted-one}
+use Rattle.fields.specs.Answer.{Answer, accepted, refused, next, never, accepted-one}
 use Rattle.fields.specs.Refuses.{Refuses}
 
 abbrev pub nth : {A : Type 0} → List A → ℕ → Answer A
@@ -20,6 +20,16 @@ pub each-nth : {A : Type 0} (F : A → Type 0) (xs : List A) (n : ℕ) (x : A) �
 each-nth F [] n x h e = never e
 each-nth F (y ∷ xs) zero x h e = subst F (accepted-one e) (h .0)
 each-nth F (y ∷ xs) (suc n) x h e = each-nth F xs n x (h .1) e
+
+-- functions that agree on every element map alike
+pub map-same : {A B : Type 0} (g h : A → B) (xs : List A) → ((n : ℕ) (x : A) → nth xs n ≡ accepted x → g x ≡ h x) → map g xs ≡ map h xs
+map-same g h [] e = refl
+map-same g h (x ∷ xs) e = ap₂ (λ y l. y ∷ l) (e 0 x refl) (map-same g h xs (λ n z i. e (suc n) z i))
+
+pub nth-map : {A B : Type 0} (g : A → B) (xs : List A) (n : ℕ) → nth (map g xs) n ≡ next (nth xs n) (λ x. accepted (g x))
+nth-map g [] n = refl
+nth-map g (x ∷ xs) zero = refl
+nth-map g (x ∷ xs) (suc n) = nth-map g xs n
 
 -- of those that pass a test, where at most one does, any two are one
 module _ {A : Type 0} (p : A → Bool) where

@@ -8,6 +8,7 @@ pub mod Takes
 pub mod Exact
 pub mod Until
 pub mod At
+pub mod Run
 pub mod Got
 pub mod Output
 pub mod Copies

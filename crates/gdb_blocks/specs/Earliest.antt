@@ -79,6 +79,10 @@ module _ {A B : Type 0} (g : A → Option B) where
   none-back [] h = refl
   none-back (x ∷ xs) h = rw (h .0) (none-back xs (h .1))
 
+  -- and no other number
+  pub earliest-refused : (xs : List A) (n : ℕ) → earliest g xs ≡ refused n → n ≡ notFound
+  earliest-refused xs n e = let i : refused n ≡ refused notFound = sym e ∙ none-back xs (none-forth xs n e) in cc
+
   pub earliest-none : (xs : List A) → (earliest g xs ≡ refused notFound) ↔ Each (λ x. g x ≡ none) xs
   earliest-none xs = (none-forth xs notFound, none-back xs)
 

@@ -71,11 +71,6 @@ module _ {B : Type 0} {f : Format} {size : Option ℕ} {g : ℕ × Block → Opt
 
 -- ---- a search for a variable, which keeps the place of its latest block
 
--- as a place of a proof hands it over: the lent bytes, and what the step's contract says
-pub variable-met : (n : ℕ) {f : Format} {size : Option ℕ} {d : List ℕ} {at : ℕ} {t : Bool} {m : ℕ} → ((i : ℕ) → Fits w8 (getD d i 0))
-    → accepted (some (t, m)) ≡ stepAt (λ i b. hasNumber n b) (block f size) d at → Met (λ i b. hasNumber n b) f size d at t m
-variable-met n {d = d} h e = met (λ i b. hasNumber n b) (bytes-given d h) e
-
 -- the search has come to `at`, and what it found so far is the value of the block at `latest`
 pub record Keeping (f : Format) (size : Option ℕ) (n : ℕ) (d : List ℕ) (from at latest : ℕ) : Type 0 where
   pub passed : Passed f size (valueIn n) d from at (valueThere f size d latest)

@@ -23,7 +23,7 @@ use Rattle.fields.specs.At.{bytes-short, bytes-at, nums-short, nums-at, place-o
 use Rattle.fields.specs.At.{step-fault, step-read}
 use Rattle.fields.specs.Got.{took, not-read, shown-of}
 use Rattle.fields.specs.Given.{at-case}
-use Rattle.gdb_format.specs.Trace.{Block}
+use Rattle.gdb_format.specs.Trace.{Block, isRegisters}
 use Rattle.gdb_format.specs.Trace as trace
 use Rattle.gdb_format.specs.Decode.{registerBlock, memoryBlock, variableBlock, blockOf, blockAfter, block}
 use Rattle.gdb_format.specs.Opening.{sizeMeaning}
@@ -196,6 +196,18 @@ number-carried n (trace.registers b) = refl
 number-carried n (trace.memory a b) = refl
 number-carried n (trace.variable m v) = refl
 
+-- and whether it is a register block
+
+abbrev carriesRegisters : Carried → Bool
+carriesRegisters registers = true
+carriesRegisters (memory a k) = false
+carriesRegisters (variable m v) = false
+
+registers-carried : (b : Block) → isRegisters b ≡ carriesRegisters (carriedBy b)
+registers-carried (trace.registers b) = refl
+registers-carried (trace.memory a b) = refl
+registers-carried (trace.variable m v) = refl
+
 -- ---- a block that was judged
 
 -- r tells where the block at `at` ends
@@ -291,6 +303,20 @@ module _ {f : Format} {size : Option ℕ} {seen : Bool} {d : List ℕ} {at : ℕ
       by false true false i j k = refl
       by false false false i j k = absurd (eqb-false (getD d at 0) 82 i (registers-read (eqb-false (getD d at 0) 77 j, eqb-false (getD d at 0) 86 k) e))
 
+  -- it is a register block exactly where its letter is `R`
+  registers-letter : {m : ℕ} (e : r ≡ blockend.At m) → isRegisters ((block-read e) .value) ≡ eqb (getD d at 0) 0x52
+  registers-letter e =
+      let b = block-read e in
+      registers-carried (b .value) ∙ ap carriesRegisters (b .carried) ∙ by (eqb (getD d at 0) 0x52) (eqb (getD d at 0) 0x4D)
+    where
+      by : (p q : Bool)
+          → carriesRegisters (cond p registers
+          (cond q (memory (wordAt (f .order) 8 d (at + 1)) (wordAt (f .order) 2 d (at + 9)))
+          (variable (wordAt (f .order) 4 d (at + 1)) (signed64 (wordAt (f .order) 8 d (at + 5)))))) ≡ p
+      by true q = refl
+      by false true = refl
+      by false false = refl
+
 -- ---- what a step shows
 
 module _ {f : Format} {size : Option ℕ} {d : List ℕ} {at : ℕ} {r : BlockEnd} (h : Ended f size false d at r) where
@@ -312,3 +338,7 @@ module _ {f : Format} {size : Option ℕ} {d : List ℕ} {at : ℕ} {r : BlockEn
   pub shown-number : (n : ℕ) {m : ℕ} → r ≡ blockend.At m → {t : Bool} → t ≡ numberAt f d at n
       → accepted (some (t, m)) ≡ stepAt (λ i b. hasNumber n b) (block f size) d at
   shown-number n e g = shown-as (λ i b. hasNumber n b) e (g ∙ sym (number-read h n e))
+
+  pub shown-registers : {m : ℕ} → r ≡ blockend.At m → {t : Bool} → t ≡ eqb (getD d at 0) 0x52
+      → accepted (some (t, m)) ≡ stepAt (λ i b. isRegisters b) (block f size) d at
+  shown-registers e g = shown-as (λ i b. isRegisters b) e (g ∙ sym (registers-letter h e))

@@ -21,8 +21,8 @@ use Rattle.gdb_data.specs.declared.BlockKind.the-variants.{Registers, Me
 use Rattle.gdb_data.specs.declared.BlockRecord.{BlockRecord}
 use Rattle.gdb_data.specs.declared.BlockStep.{BlockStep}
 use Rattle.gdb_data.specs.declared.BlockStep.the-variants as step
-use Rattle.gdb_data.specs.declared.VariableStep.{VariableStep}
-use Rattle.gdb_data.specs.declared.VariableStep.the-variants as variablestep
+use Rattle.gdb_data.specs.declared.SearchStep.{SearchStep}
+use Rattle.gdb_data.specs.declared.SearchStep.the-variants as searchstep
 use Rattle.gdb_data.specs.declared.BlockEnd.{BlockEnd}
 use Rattle.gdb_data.specs.declared.BlockEnd.the-variants as blockend
 use Rattle.gdb_data.specs.declared.OtherBlock.{OtherBlock}
@@ -74,12 +74,12 @@ hasNumber n (trace.registers b) = false
 hasNumber n (trace.memory a b) = false
 hasNumber n (trace.variable m v) = eqb m n
 
--- what `VariableStep` says: whether the block is one of the variable, and the place after it
-abbrev pub variableStepMeaning : VariableStep → Answer (Option (Bool × ℕ))
-variableStepMeaning variablestep.End = accepted none
-variableStepMeaning (variablestep.Own m) = accepted (some (true, m))
-variableStepMeaning (variablestep.Other m) = accepted (some (false, m))
-variableStepMeaning (variablestep.Refused n) = refused n
+-- what `SearchStep` says: whether the block is one that is sought, and the place after it
+abbrev pub searchMeaning : SearchStep → Answer (Option (Bool × ℕ))
+searchMeaning searchstep.End = accepted none
+searchMeaning (searchstep.Sought m) = accepted (some (true, m))
+searchMeaning (searchstep.Other m) = accepted (some (false, m))
+searchMeaning (searchstep.Refused n) = refused n
 
 -- the letter at `at` is `V`, and the number behind it n
 abbrev pub numberAt : Format → List ℕ → ℕ → ℕ → Bool

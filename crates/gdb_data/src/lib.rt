@@ -5,11 +5,12 @@ ghost use mathlib.Core.Bool.{false};
 ghost use lib.ListN.{length, drop};
 ghost use Rattle.refusals.specs.Refusal.{blockPastData};
 ghost use Rattle.fields.specs.Reader.{bytes, stepAt, passAt};
+ghost use Rattle.gdb_format.specs.Trace.{isRegisters};
 ghost use Rattle.gdb_format.specs.Opening.{sizeMeaning};
 ghost use Rattle.gdb_format.specs.Decode.{memoryBlock, blockAfter, block};
 ghost use Rattle.gdb_format.specs.declared.Format.{Format};
 ghost use Rattle.gdb_data.specs.Blocks.{kindMeaning, kindAt, blockStepMeaning, blockSeen, endMeaning, verdictMeaning, blocksFill};
-ghost use Rattle.gdb_data.specs.Blocks.{hasNumber, variableStepMeaning, numberAt, NoOther, OtherAt, StopsAt};
+ghost use Rattle.gdb_data.specs.Blocks.{hasNumber, searchMeaning, numberAt, NoOther, OtherAt, StopsAt};
 use gdb_format::Format;
 use gdb_format::RegisterSize;
 use refusals::BAD_LETTER;
@@ -163,13 +164,31 @@ pub fn block_at(format: Format, size: RegisterSize, d: &[u8], at: usize) -> Bloc
     }
 }
 
-// What stands where a block may start, for a search for one variable: the end of the data, a block of the variable or another, each with the place
-// after it, or a refusal. A walk over many blocks asks for no more than it needs.
-pub enum VariableStep {
+// What stands where a block may start, for a search: the end of the data, a block that is sought or another, each with the place after it, or a refusal.
+// A walk over many blocks asks for no more than it needs.
+pub enum SearchStep {
     End,
-    Own(usize),
+    Sought(usize),
     Other(usize),
     Refused(u8),
+}
+
+// What stands at `at`, as `block_at` has it, told by whether it is a register block.
+pub fn registers_at(format: Format, size: RegisterSize, d: &[u8], at: usize) -> SearchStep
+    ensures { λ r. ⌜ searchMeaning r ≡ stepAt (λ i b. isRegisters b) (block format (sizeMeaning size)) (now (d .entry)) at ⌝ }
+{
+    if d.len() <= at {
+        return SearchStep::End;
+    }
+    match block_end(format, size, d, at) {
+        BlockEnd::Refused(n) => SearchStep::Refused(n),
+        BlockEnd::At(next) => {
+            if d[at] == 82 {
+                return SearchStep::Sought(next);
+            }
+            SearchStep::Other(next)
+        }
+    }
 }
 
 // Whether the letter at `at` is `V`, and the number behind it this one.
@@ -191,19 +210,19 @@ pub fn variable_at(
     d: &[u8],
     at: usize,
     number: u32,
-) -> VariableStep
-    ensures { λ r. ⌜ variableStepMeaning r ≡ stepAt (λ i b. hasNumber number b) (block format (sizeMeaning size)) (now (d .entry)) at ⌝ }
+) -> SearchStep
+    ensures { λ r. ⌜ searchMeaning r ≡ stepAt (λ i b. hasNumber number b) (block format (sizeMeaning size)) (now (d .entry)) at ⌝ }
 {
     if d.len() <= at {
-        return VariableStep::End;
+        return SearchStep::End;
     }
     match block_end(format, size, d, at) {
-        BlockEnd::Refused(n) => VariableStep::Refused(n),
+        BlockEnd::Refused(n) => SearchStep::Refused(n),
         BlockEnd::At(next) => {
             if has_number(format, d, at, number) {
-                return VariableStep::Own(next);
+                return SearchStep::Sought(next);
             }
-            VariableStep::Other(next)
+            SearchStep::Other(next)
         }
     }
 }

@@ -10,10 +10,10 @@ use lib.ListN.{length, drop, take, set, length-set, take-append-drop}
 use lib.Seq.{take-suc-set, drop-set-lt, drop-drop, append-snoc}
 use Rattle.fields.specs.Answer.{Answer, accepted, refused}
 use Rattle.fields.specs.Output.{fitting, over, Lent}
-use Rattle.gdb_format.specs.declared.Format.{Format}
 use Rattle.gdb_format.specs.declared.Settings.{Settings}
 use Rattle.gdb_frames.specs.Questions.{asked}
 use Rattle.gdb_table.specs.declared.FrameRecord.{FrameRecord}
+use Rattle.gdb_table.specs.declared.Manner.{Manner}
 use Rattle.gdb_table.specs.declared.Step.{Step}
 use Rattle.gdb_table.specs.declared.Plan.{Plan}
 use Rattle.gdb_table.specs.Records.{frameTable, tableMeaning}
@@ -23,13 +23,13 @@ use Rattle.gdb_table.specs.Walk.{stepFrom, recordsFrom, toWrite, Planned
 pub record Filling (b : List ℕ) (p : Plan) (ys : List FrameRecord) (i at : ℕ) (ws : List FrameRecord) : Type 0 where
   pub below : i ≤ p .writes
   pub long : length ws ≡ length ys
-  pub done : take i ws ++ recordsFrom (p .format) b (p .writes - i) at ≡ recordsFrom (p .format) b (p .writes) (p .start)
+  pub done : take i ws ++ recordsFrom (p .manner) b (p .writes - i) at ≡ recordsFrom (p .manner) b (p .writes) (p .start)
   pub rest : drop i ws ≡ drop i ys
 
-length-records : (f : Format) (b : List ℕ) (n at : ℕ) → length (recordsFrom f b n at) ≡ n
+length-records : (m : Manner) (b : List ℕ) (n at : ℕ) → length (recordsFrom m b n at) ≡ n
 unfolding recordsFrom
-length-records f b zero at = refl
-length-records f b (suc n) at = ap suc (length-records f b n (stepFrom f b at .next))
+length-records m b zero at = refl
+length-records m b (suc n) at = ap suc (length-records m b n (stepFrom m b at .next))
 
 over-is : (ys : List FrameRecord) (x : Answer (List FrameRecord)) → toWrite x ++ drop (length (toWrite x)) ys ≡ over ys x
 over-is ys (accepted rs) = refl
@@ -39,28 +39,28 @@ module _ (s : Settings) (b : List ℕ) (p : Plan) (ys : List FrameRecord) (plann
   pub starts : Filling b p ys 0 (p .start) ys
   starts =
       let e : p .writes - 0 ≡ p .writes = omega arith in
-      record { below = omega arith; long = refl; done = ap (λ n. recordsFrom (p .format) b n (p .start)) e; rest = refl }
+      record { below = omega arith; long = refl; done = ap (λ n. recordsFrom (p .manner) b n (p .start)) e; rest = refl }
 
   module _ (i at : ℕ) (ws : List FrameRecord) (f : Filling b p ys i at ws) where
     pub row-within : i < p .writes → i < length ws
     row-within less = omega (arith, planned .fits, f .long)
 
-    one-more : i < p .writes → recordsFrom (p .format) b (p .writes - i) at
-        ≡ stepFrom (p .format) b at .found ∷ recordsFrom (p .format) b (p .writes - (i + 1)) (stepFrom (p .format) b at .next)
+    one-more : i < p .writes → recordsFrom (p .manner) b (p .writes - i) at
+        ≡ stepFrom (p .manner) b at .found ∷ recordsFrom (p .manner) b (p .writes - (i + 1)) (stepFrom (p .manner) b at .next)
     unfolding recordsFrom
     one-more less =
         let e : p .writes - i ≡ suc (p .writes - (i + 1)) = omega arith in
-        ap (λ n. recordsFrom (p .format) b n at) e
+        ap (λ n. recordsFrom (p .manner) b n at) e
 
-    pub goes-on : i < p .writes → (r : Step) → r ≡ stepFrom (p .format) b at → Filling b p ys (i + 1) (r .next) (set ws i (r .found))
+    pub goes-on : i < p .writes → (r : Step) → r ≡ stepFrom (p .manner) b at → Filling b p ys (i + 1) (r .next) (set ws i (r .found))
     goes-on less r e = record {
       below = omega arith;
       long = length-set ws i (r .found) ∙ f .long;
       done =
-          ap (λ k. take k (set ws i (r .found)) ++ recordsFrom (p .format) b (p .writes - (i + 1)) (r .next)) (add-one i)
-          ∙ ap (λ l. l ++ recordsFrom (p .format) b (p .writes - (i + 1)) (r .next)) (take-suc-set ws i (r .found) (row-within less))
-          ∙ append-snoc (take i ws) (r .found) (recordsFrom (p .format) b (p .writes - (i + 1)) (r .next))
-          ∙ ap (λ (z : Step). take i ws ++ (z .found ∷ recordsFrom (p .format) b (p .writes - (i + 1)) (z .next))) e
+          ap (λ k. take k (set ws i (r .found)) ++ recordsFrom (p .manner) b (p .writes - (i + 1)) (r .next)) (add-one i)
+          ∙ ap (λ l. l ++ recordsFrom (p .manner) b (p .writes - (i + 1)) (r .next)) (take-suc-set ws i (r .found) (row-within less))
+          ∙ append-snoc (take i ws) (r .found) (recordsFrom (p .manner) b (p .writes - (i + 1)) (r .next))
+          ∙ ap (λ (z : Step). take i ws ++ (z .found ∷ recordsFrom (p .manner) b (p .writes - (i + 1)) (z .next))) e
           ∙ ap (λ l. take i ws ++ l) (sym (one-more less))
           ∙ f .done;
       rest = drop-set-lt (i + 1) ws i (r .found) (omega arith) ∙ sym (drop-drop 1 i ws) ∙ ap (drop 1) (f .rest) ∙ drop-drop 1 i ys;
@@ -70,11 +70,11 @@ module _ (s : Settings) (b : List ℕ) (p : Plan) (ys : List FrameRecord) (plann
     unfolding recordsFrom
     all-taken over =
         let e : 0 ≡ p .writes - i = omega (arith, f .below) in
-        sym (append-nil (take i ws)) ∙ ap (λ n. take i ws ++ recordsFrom (p .format) b n at) e ∙ f .done ∙ planned .finds
+        sym (append-nil (take i ws)) ∙ ap (λ n. take i ws ++ recordsFrom (p .manner) b n at) e ∙ f .done ∙ planned .finds
 
     -- as many as there are to be written
     counted : p .writes ≤ i → i ≡ length (toWrite (fitting (length ys) (asked s b frameTable)))
-    counted over = omega (arith, f .below, ap length (planned .finds), length-records (p .format) b (p .writes) (p .start))
+    counted over = omega (arith, f .below, ap length (planned .finds), length-records (p .manner) b (p .writes) (p .start))
 
     pub ends : p .writes ≤ i → Lent (asked s b frameTable) ys (tableMeaning (p .answer)) ws
     ends over = record {

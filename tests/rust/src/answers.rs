@@ -4,8 +4,9 @@ use crate::c::{self, Block, Count, CpuRange, DatSummary, Length, Line, Mark, Pai
 use crate::reader::{Reader, Record};
 use crate::second::dat::{self, Ending, Summary};
 use crate::second::edit::{self, Pair, Selection, TracepointRange, Which};
-use crate::second::gdb::{self, BlockKind, Frame, LineKind, Trace};
+use crate::second::gdb::{self, BlockKind, Frame, LineKind, Row, Trace};
 use crate::second::{Order, Part, Refusal, Settings};
+use std::num::NonZeroUsize;
 
 /// An answer of the C interface.
 pub trait Answer: Copy + Default + PartialEq + std::fmt::Debug {
@@ -108,12 +109,15 @@ fn cpu_range(range: dat::CpuRange) -> CpuRange {
 /// Only the bytes of the fields are written, as C would.
 fn frame_table(settings: c::Settings, file: &[u8], records: &mut [Record]) -> Result<usize, Refusal> {
     let unset = Frame { tracepoint: 0, data: Part { place: 0, length: 0 } };
-    let mut frames = vec![unset; records.len()];
-    let count = read(settings, file)?.frame_table(&mut frames)?;
-    for (record, frame) in records.iter_mut().zip(&frames[..count]) {
+    let mut rows = vec![Row { frame: unset, registers: None }; records.len()];
+    let count = read(settings, file)?.frame_table(&mut rows)?;
+    for (record, Row { frame, registers }) in records.iter_mut().zip(&rows[..count]) {
         let mut first = record[0].to_ne_bytes();
         first[..2].copy_from_slice(&frame.tracepoint.to_ne_bytes());
-        *record = [u64::from_ne_bytes(first), frame.data.place as u64, frame.data.length as u64];
+        first[2] = registers.is_some().into();
+        let places = [frame.data.place, frame.data.length, registers.map_or(0, NonZeroUsize::get)];
+        let [place, size, registers_place] = places.map(|place| place as u64);
+        *record = [u64::from_ne_bytes(first), place, size, registers_place];
     }
     Ok(count)
 }

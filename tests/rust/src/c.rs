@@ -1,7 +1,7 @@
 //! The C interface, as `include/tufakpeni.h` declares it.
 
 /// The number of the interface.
-pub const INTERFACE: u64 = 4;
+pub const INTERFACE: u64 = 5;
 
 pub const LINE_OTHER: u8 = 0;
 pub const LINE_R: u8 = 1;
@@ -55,8 +55,10 @@ pub struct Line {
 #[repr(C)]
 pub struct Frame {
     pub tracepoint: u16,
+    pub has_registers: u8,
     pub place: usize,
     pub size: usize,
+    pub registers_place: usize,
 }
 
 #[derive(Clone, Copy, Debug, Default, PartialEq, Eq)]

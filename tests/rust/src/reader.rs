@@ -5,14 +5,21 @@ use crate::c::{
 };
 
 /// A frame record as the words that it fills, so that its padding is compared where it stays unchanged.
-pub type Record = [u64; 3];
+pub type Record = [u64; 4];
 
 const _: () = assert!(size_of::<Record>() == size_of::<Frame>() && align_of::<Record>() == align_of::<Frame>());
 
 /// A record's fields.
 pub fn fields(record: &Record) -> Frame {
-    let [b0, b1, ..] = record[0].to_ne_bytes();
-    Frame { tracepoint: u16::from_ne_bytes([b0, b1]), place: record[1] as usize, size: record[2] as usize }
+    let [first, place, size, registers_place] = *record;
+    let [b0, b1, has_registers, ..] = first.to_ne_bytes();
+    Frame {
+        tracepoint: u16::from_ne_bytes([b0, b1]),
+        has_registers,
+        place: place as usize,
+        size: size as usize,
+        registers_place: registers_place as usize,
+    }
 }
 
 /// A reader of both formats. The first argument of a GDB call says how the trace is to be read.

@@ -1,12 +1,15 @@
 -- `gdb_table::record_of` meets its contract, field by field. Assumes nothing.
-use mathlib.Core.Path.{refl}
+use mathlib.Core.Path.{ap}
+use Rattle.gdb_read.specs.Steps.{headMeaning}
+use Rattle.gdb_table.specs.Walk.{recordWith}
+use borrow.Author.Needs.{needs}
 use Rattle.gdb_table.proofs.record_of.Statement.{statement}
 use Rattle.gdb_table.proofs.record_of.Tie as tie
 
 returns : tie.Need-returns
-returns c = refl
+returns c = ap (recordWith (headMeaning (c .before .args .head))) (c .told-of .ensures)
 
 pub record-of-spec : {M : Type 1} → statement M
 record-of-spec =
     tie.close
-    (tie.spec returns)
+    (tie.spec (λ c κs. search needs) returns)

@@ -51,18 +51,16 @@ use denote.Triple.Table.{entered, cited}
 use denote.Triple.Clauses.{ensured, lasts}
 use denote.Triple.Walked.{says, Stays, stay-slice, walkOf, goes-slice, ends-at}
 use denote.Signature.{plain}
-use Rattle.gdb_format.specs.declared.Format.{Format}
 use Rattle.gdb_format.specs.declared.Settings.{Settings}
 use Rattle.gdb_format.proofs.Settings as Se
 use Rattle.gdb_format.proofs.Settings.Laws as Se′
-use Rattle.gdb_format.proofs.Format as Fo
-use Rattle.gdb_format.proofs.Format.Laws as Fo′
 use Rattle.fields.specs.Output.{Lent}
 use Rattle.gdb_frames.specs.Questions.{asked}
 use Rattle.gdb_table.specs.Records.{frameTable, tableMeaning}
 use Rattle.gdb_table.specs.Walk.{stepFrom, Planned}
 use Rattle.gdb_table.specs.Filling.{Filling, starts, row-within, goes-on, ends}
 use Rattle.gdb_table.specs.declared.FrameRecord.{FrameRecord}
+use Rattle.gdb_table.specs.declared.Manner.{Manner}
 use Rattle.gdb_table.specs.declared.Step.{Step}
 use Rattle.gdb_table.specs.declared.Plan.{Plan}
 use Rattle.gdb_table.specs.declared.TableAnswer.{TableAnswer}
@@ -70,6 +68,8 @@ use Rattle.gdb_table.proofs.Lending.{R, stays, Passed, Values, values, 
 use Rattle.gdb_table.proofs.Tests.{tests}
 use Rattle.gdb_table.proofs.FrameRecord as T
 use Rattle.gdb_table.proofs.FrameRecord.Laws as T′
+use Rattle.gdb_table.proofs.Manner as Ma
+use Rattle.gdb_table.proofs.Manner.Laws as Ma′
 use Rattle.gdb_table.proofs.Step as S
 use Rattle.gdb_table.proofs.Step.Laws as S′
 use Rattle.gdb_table.proofs.TableAnswer as An
@@ -95,7 +95,7 @@ abbrev rv : FrameRecord → Val
 rv r = LL.val T.the-type T′.the-laws r
 
 abbrev wide : ℕ
-wide = 24
+wide = 32
 
 abbrev stayed : Stays (table.ended .signature .params) (table.ended .kept)
 stayed = stays (stay-slice (1 ∷ []) tt (plain (λ _. R)))
@@ -113,9 +113,9 @@ module _ {M : Type 1} (𝓤 : URA M) (H : Heap 𝓤) (A : Atoms 𝓤) (mem : Mem
       → ent 𝓤 (ensured 𝓤 H A planned.ended (planned.clauses 𝓤 H A mem run) (κ, tt) (g, (x, (n, tt))) tt r) (fact 𝓤 (Planned g (x .now) n r))
   plan-of κ g x n r = exE 𝓤 _ (λ ws. snd∗ 𝓤 (sem 𝓤 H A (lasts planned.ended (κ, tt) (g, (x, (n, tt))) ws)) (fact 𝓤 (Planned g (x .now) n r)))
 
-  step-of : (κ : Lft) (f : Format) (x : RefT (List ℕ)) (at : ℕ) (r : Step)
-      → ent 𝓤 (ensured 𝓤 H A step-at.ended (step-at.clauses 𝓤 H A mem run) (κ, tt) (f, (x, (at, tt))) tt r) (fact 𝓤 (r ≡ stepFrom f (x .now) at))
-  step-of κ f x at r = exE 𝓤 _ (λ ws. snd∗ 𝓤 (sem 𝓤 H A (lasts step-at.ended (κ, tt) (f, (x, (at, tt))) ws)) (fact 𝓤 (r ≡ stepFrom f (x .now) at)))
+  step-of : (κ : Lft) (m : Manner) (x : RefT (List ℕ)) (at : ℕ) (r : Step)
+      → ent 𝓤 (ensured 𝓤 H A step-at.ended (step-at.clauses 𝓤 H A mem run) (κ, tt) (m, (x, (at, tt))) tt r) (fact 𝓤 (r ≡ stepFrom m (x .now) at))
+  step-of κ m x at r = exE 𝓤 _ (λ ws. snd∗ 𝓤 (sem 𝓤 H A (lasts step-at.ended (κ, tt) (m, (x, (at, tt))) ws)) (fact 𝓤 (r ≡ stepFrom m (x .now) at)))
 
 module _ {M : Type 1} (𝓤 : URA M) (H : Heap 𝓤) (A : Atoms 𝓤) (W : Given 𝓤 H A) (mem : Memory → SProp 𝓤) (run : Routine → Fun 𝓤) (κ κ′ : Lft)
     (bounds : AllOutlive 2 (table.signature .outlives) (κ, (κ′, tt))) (q q′ : Share) (g : Settings)
@@ -184,19 +184,19 @@ module _ {M : Type 1} (𝓤 : URA M) (H : Heap 𝓤) (A : Atoms 𝓤) (W : Given
       owned ! Se.the-row (Is Se.the-row) (LL.makes Se.the-type Se′.the-plain 𝓤 H A) g _ g-is $ fjoin ! $
       nothing ! $ move ! (2 ∷ 0 ∷ []) $ join ! $ join ! $ frame ! $ done !
 
-  -- the machine value of a format
-  abbrev fv : Format → Val
-  fv f = LL.val Fo.the-type Fo′.the-laws f
+  -- the machine value of a manner
+  abbrev mv : Manner → Val
+  mv m = LL.val Ma.the-type Ma′.the-laws m
 
-  abbrev to-step : Format → ℕ → StepAtC 𝓤 H A mem run .Ghost
-  to-step f at = (((κ, tt), (q, tt), tt, (f, (x, (at, tt))), (fv f ∷ [], (sv ∷ [], (vint w64 at ∷ [], tt)))), tt)
+  abbrev to-step : Manner → ℕ → StepAtC 𝓤 H A mem run .Ghost
+  to-step m at = (((κ, tt), (q, tt), tt, (m, (x, (at, tt))), (mv m ∷ [], (sv ∷ [], (vint w64 at ∷ [], tt)))), tt)
 
-  goes-step : (f : Format) (at : ℕ) → Is Fo.the-row f (fv f ∷ []) → at < 2 ^ 64
-      → ent 𝓤 (sep 𝓤 (A .lft κ q) (sem 𝓤 H A Src)) (StepAtC 𝓤 H A mem run .pre (to-step f at))
-  goes-step f at f-is fits =
+  goes-step : (m : Manner) (at : ℕ) → Is Ma.the-row m (mv m ∷ []) → at < 2 ^ 64
+      → ent 𝓤 (sep 𝓤 (A .lft κ q) (sem 𝓤 H A Src)) (StepAtC 𝓤 H A mem run .pre (to-step m at))
+  goes-step m at m-is fits =
       qed W (‵ (flft κ q) ∷ ‵ Src ∷ []) ∵ nothing ! $ owned ! usize (Is usize) (uint-makes 𝓤 H A W w64) at _ (refl, fits) $ fjoin ! $
       move ! (2 ∷ 0 ∷ []) $ fjoin ! $
-      owned ! Fo.the-row (Is Fo.the-row) (LL.makes Fo.the-type Fo′.the-plain 𝓤 H A) f _ f-is $ fjoin ! $
+      owned ! Ma.the-row (Is Ma.the-row) (LL.makes Ma.the-type Ma′.the-plain 𝓤 H A) m _ m-is $ fjoin ! $
       nothing ! $ move ! (2 ∷ 0 ∷ []) $ join ! $ join ! $ frame ! $ done !
 
   module _ (𝓣 : Tables 𝓤 H) (known-plan : Triple 𝓤 (𝓣 .C #gdb-table·planned) (PlannedC 𝓤 H A mem run))
@@ -222,7 +222,7 @@ module _ {M : Type 1} (𝓤 : URA M) (H : Heap 𝓤) (A : Atoms 𝓤) (W : Given
     module _ (l₀ l₁ l₂ l₃ l₄ l₅ l₆ l₇ l₈ l₉ l₁₀ l₁₁ l₁₂ l₁₃ : ℕ) where
       abbrev En : Env 𝓤 H
       En =
-          (An′.mir, l₀) ∷ (Se′.mir, l₁) ∷ (sTy, l₂) ∷ (outTy, l₃) ∷ (P′.mir, l₄) ∷ (word, l₅) ∷ (Fo′.mir, l₆) ∷ (word, l₇) ∷ (word, l₈) ∷ (S′.mir, l₉)
+          (An′.mir, l₀) ∷ (Se′.mir, l₁) ∷ (sTy, l₂) ∷ (outTy, l₃) ∷ (P′.mir, l₄) ∷ (word, l₅) ∷ (Ma′.mir, l₆) ∷ (word, l₇) ∷ (word, l₈) ∷ (S′.mir, l₉)
           ∷ (word, l₁₀) ∷ (tyBool, l₁₁) ∷ (word, l₁₂) ∷ (tyPtr, l₁₃) ∷ []
 
       -- a local that holds a number, and one that holds nothing yet
@@ -234,7 +234,7 @@ module _ {M : Type 1} (𝓤 : URA M) (H : Heap 𝓤) (A : Atoms 𝓤) (W : Given
 
       -- the context between any two statements, where the slice holds ws and the locals _10 and _8 to _4 are these:
       -- [the source's token; the source; the row; the open borrow; obs; auth; room for _13; …; _12; …; _11; …; _10; …;
-      -- _9; …; _8 = i; …; _7 = at; …; _6 = the format; …;
+      -- _9; …; _8 = i; …; _7 = at; …; _6 = the manner; …;
       -- _5 = how many are written; …; _4 = the plan; …; _3 = out; …; _2 = file; …; _1 = settings; …; room for _0; …]
       abbrev Ctx : List FrameRecord → Item 𝓤 → Item 𝓤 → Item 𝓤 → Item 𝓤 → Item 𝓤 → Item 𝓤 → List (Item 𝓤)
       Ctx ws i₁₀ i₈ i₇ i₆ i₅ i₄ =
@@ -242,7 +242,7 @@ module _ {M : Type 1} (𝓤 : URA M) (H : Heap 𝓤) (A : Atoms 𝓤) (W : Given
           ∷ ‵ (fobs γ (codedHoleys R .code (heres R ys))) ∷ ‵ (fauth γ (codedHoleys R .code (heres R ys)))
           ∷ ‵ (froom tyPtr l₁₃ 0) ∷ ‵ (fdies tyPtr l₁₃) ∷ none l₁₂ ∷ ‵ (fdies word l₁₂) ∷ ‵ (froom tyBool l₁₁ 0) ∷ ‵ (fdies tyBool l₁₁)
           ∷ i₁₀ ∷ ‵ (fdies word l₁₀) ∷ ‵ (froom S′.mir l₉ 0) ∷ ‵ (fdies S′.mir l₉)
-          ∷ i₈ ∷ ‵ (fdies word l₈) ∷ i₇ ∷ ‵ (fdies word l₇) ∷ i₆ ∷ ‵ (fdies Fo′.mir l₆) ∷ i₅ ∷ ‵ (fdies word l₅) ∷ i₄ ∷ ‵ (fdies P′.mir l₄)
+          ∷ i₈ ∷ ‵ (fdies word l₈) ∷ i₇ ∷ ‵ (fdies word l₇) ∷ i₆ ∷ ‵ (fdies Ma′.mir l₆) ∷ i₅ ∷ ‵ (fdies word l₅) ∷ i₄ ∷ ‵ (fdies P′.mir l₄)
           ∷ ‵ (fat fullShare outTy l₃ 0 ov) ∷ ‵ (fdies outTy l₃) ∷ ‵ (fat fullShare sTy l₂ 0 sv) ∷ ‵ (fdies sTy l₂)
           ∷ ‵ (fat fullShare Se′.mir l₁ 0 gv) ∷ ‵ (fdies Se′.mir l₁)
           ∷ ‵ (froom An′.mir l₀ 0) ∷ ‵ (fdies An′.mir l₀) ∷ []
@@ -254,8 +254,8 @@ module _ {M : Type 1} (𝓤 : URA M) (H : Heap 𝓤) (A : Atoms 𝓤) (W : Given
         goal = plan .writes
 
         -- what whoever holds the plan knows of its fields
-        format-is : Is Fo.the-row (plan .format) (fv (plan .format) ∷ [])
-        format-is = LL.owed P.the-type P′.the-laws plan _ plan-is .1 .1 .0
+        manner-is : Is Ma.the-row (plan .manner) (mv (plan .manner) ∷ [])
+        manner-is = LL.owed P.the-type P′.the-laws plan _ plan-is .1 .1 .0
 
         answer-is : Is An.the-row (plan .answer) (av (plan .answer) ∷ [])
         answer-is = LL.owed P.the-type P′.the-laws plan _ plan-is .1 .1 .1 .0
@@ -280,7 +280,7 @@ module _ {M : Type 1} (𝓤 : URA M) (H : Heap 𝓤) (A : Atoms 𝓤) (W : Given
 
         abbrev At : State → List (Item 𝓤)
         At t =
-            Ctx (t .ws) (num l₁₀ (length ys)) (num l₈ (t .i)) (num l₇ (t .at)) (‵ (fat fullShare Fo′.mir l₆ 0 (fv (plan .format)))) (num l₅ goal) made
+            Ctx (t .ws) (num l₁₀ (length ys)) (num l₈ (t .i)) (num l₇ (t .at)) (‵ (fat fullShare Ma′.mir l₆ 0 (mv (plan .manner)))) (num l₅ goal) made
 
         -- a turn's postcondition: it ends nearer to the goal, or the loop is left and the rest of the body runs
         abbrev Turned : State → Out → SProp 𝓤
@@ -296,15 +296,15 @@ module _ {M : Type 1} (𝓤 : URA M) (H : Heap 𝓤) (A : Atoms 𝓤) (W : Given
             -- one more: the source is had twice, and one of the two goes to `step_at`, with the token, which comes back
             (λ less. move ! (1 ∷ []) $ use1 W (‵ Src ⊛ ‵ Src) (shr-slice-copy 𝓤 H A W (named 0) κ u8 .twice x (sv ∷ [])) $ split ! $
             move ! (2 ∷ 0 ∷ []) $
-            use2 W (raw (StepAtC 𝓤 H A mem run .pre (to-step (plan .format) (t .at)))) (goes-step (plan .format) (t .at) format-is (t .fits)) $
-            calls-at ! fm (StepAtC 𝓤 H A mem run) known-step (to-step (plan .format) (t .at))
+            use2 W (raw (StepAtC 𝓤 H A mem run .pre (to-step (plan .manner) (t .at)))) (goes-step (plan .manner) (t .at) manner-is (t .fits)) $
+            calls-at ! fm (StepAtC 𝓤 H A mem run) known-step (to-step (plan .manner) (t .at))
             (and-then ! (load ! (from ! (stop !)) (look ! 20 refl)) (and-then ! (load ! (from ! (stop !)) (look ! 28 refl))
             (and-then ! (load ! (from ! (stop !)) (look ! 18 refl)) (no-more !)))) (λ w.
             use1 W (later (some (λ (r : Step). ((‵ (flft κ q) ⊛ ‵ ftrue) ⊛ ‵ (S.the-row .own r (w ∷ []))) ⊛ raw
-            (ensured 𝓤 H A step-at.ended (step-at.clauses 𝓤 H A mem run) (κ, tt) (plan .format, (x, (t .at, tt))) tt r)))) (id⊢ 𝓤 _) $
+            (ensured 𝓤 H A step-at.ended (step-at.clauses 𝓤 H A mem run) (κ, tt) (plan .manner, (x, (t .at, tt))) tt r)))) (id⊢ 𝓤 _) $
             await ! tt $ pick ! (λ r.
-            split ! $ move ! (1 ∷ []) $ use1 W (raw (fact 𝓤 (r ≡ stepFrom (plan .format) ss (t .at))))
-            (step-of 𝓤 H A mem run κ (plan .format) x (t .at) r) $ heard ! (r ≡ stepFrom (plan .format) ss (t .at)) (λ e.
+            split ! $ move ! (1 ∷ []) $ use1 W (raw (fact 𝓤 (r ≡ stepFrom (plan .manner) ss (t .at))))
+            (step-of 𝓤 H A mem run κ (plan .manner) x (t .at) r) $ heard ! (r ≡ stepFrom (plan .manner) ss (t .at)) (λ e.
             split ! $ move ! (1 ∷ []) $ facts ! S.the-row (Is S.the-row) (shows 𝓤 H A S.the-row) r (w ∷ []) (λ is. split ! $
             move ! (1 ∷ []) $ drop ! $
             land ! (from ! (stop !)) (init ! 14 refl (LL.lawful S.the-type S′.the-laws 𝓤 H A W .typed r _ is .0)) $
@@ -368,7 +368,7 @@ module _ {M : Type 1} (𝓤 : URA M) (H : Heap 𝓤) (A : Atoms 𝓤) (W : Given
             next-fits : (r : Step) (w : Val) → Is S.the-row r (w ∷ []) → r .next < 2 ^ 64
             next-fits r w is = LL.owed S.the-type S′.the-laws r _ is .1 .0 .1
 
-            turned : t .i < goal → (r : Step) → r .next < 2 ^ 64 → r ≡ stepFrom (plan .format) ss (t .at) → State
+            turned : t .i < goal → (r : Step) → r .next < 2 ^ 64 → r ≡ stepFrom (plan .manner) ss (t .at) → State
             turned l r n e =
                 record {
                   i = t .i + 1;
@@ -382,13 +382,13 @@ module _ {M : Type 1} (𝓤 : URA M) (H : Heap 𝓤) (A : Atoms 𝓤) (W : Given
         start-fits = LL.owed P.the-type P′.the-laws plan _ plan-is .1 .0 .1
 
         -- the plan's parts and i, and the loop
-        looped : Sq W (Ctx ys (num l₁₀ (length ys)) (none l₈) (none l₇) (‵ (froom Fo′.mir l₆ 0)) (none l₅) made)
+        looped : Sq W (Ctx ys (num l₁₀ (length ys)) (none l₈) (none l₇) (‵ (froom Ma′.mir l₆ 0)) (none l₅) made)
             (runs C Λ En code-mir.t-3 (atRet En Post))
         looped =
             assigns ! (of-opd ! (load ! (from ! (fld ! refl (stop !))) (look-in ! 24 (sub ! 0 refl (whole !))))) (from ! (stop !))
             (init ! 22 refl (tt, record { fits = LL.owed P.the-type P′.the-laws plan _ plan-is .0 .1 })) $
             assigns ! (of-opd ! (load ! (from ! (fld ! refl (stop !))) (look-in ! 24 (sub ! 2 refl (whole !))))) (from ! (stop !))
-            (init ! 20 refl (LL.lawful Fo.the-type Fo′.the-laws 𝓤 H A W .typed (plan .format) _ format-is .0)) $
+            (init ! 20 refl (LL.lawful Ma.the-type Ma′.the-laws 𝓤 H A W .typed (plan .manner) _ manner-is .0)) $
             assigns ! (of-opd ! (load ! (from ! (fld ! refl (stop !))) (look-in ! 24 (sub ! 1 refl (whole !))))) (from ! (stop !))
             (init ! 18 refl (tt, record { fits = start-fits })) $
             assigns ! (of-opd ! (lit ! tt)) (from ! (stop !)) (init ! 16 refl (tt, record { fits = lit< tt })) $
@@ -401,7 +401,7 @@ module _ {M : Type 1} (𝓤 : URA M) (H : Heap 𝓤) (A : Atoms 𝓤) (W : Given
             })
 
       -- the plan
-      begun : Sq W (Ctx ys (none l₁₀) (none l₈) (none l₇) (‵ (froom Fo′.mir l₆ 0)) (none l₅) (‵ (froom P′.mir l₄ 0)))
+      begun : Sq W (Ctx ys (none l₁₀) (none l₈) (none l₇) (‵ (froom Ma′.mir l₆ 0)) (none l₅) (‵ (froom P′.mir l₄ 0)))
           (runs C Λ En code-mir.t-1 (atRet En Post))
       begun =
           assigns ! (of-opd ! (load ! (from ! (fld ! refl (stop !))) (look-in ! 26 (sub ! 1 refl (whole !))))) (from ! (stop !))

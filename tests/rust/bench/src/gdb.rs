@@ -4,10 +4,11 @@ use crate::question::{Side, Told};
 use crate::table::Row;
 use crate::timing::{in_turn, Times};
 use std::hint::black_box;
+use std::num::NonZeroUsize;
 use tufakpeni_tests::answers::read;
 use tufakpeni_tests::c::{Range, Selection, Settings};
 use tufakpeni_tests::reader::{fields, Record};
-use tufakpeni_tests::second::gdb::Frame;
+use tufakpeni_tests::second::gdb::{Frame, Row as TableRow};
 use tufakpeni_tests::second::Part;
 
 /// What the questions are asked about, and what they write to.
@@ -22,7 +23,7 @@ struct Work {
     half: usize,
     /// The library's frame table and that of plain Rust.
     records: Vec<Record>,
-    frames: Vec<Frame>,
+    rows: Vec<TableRow>,
 }
 
 impl Work {
@@ -34,6 +35,7 @@ impl Work {
         let counted = (Side::Plain.reader().frame_count)(settings, &file);
         assert_eq!(counted.refusal, 0, "a file that is read to its end");
         let frame = Frame { tracepoint: 1, data: Part { place: 1, length: 1 } };
+        let row = TableRow { frame, registers: None };
         let mut out = vec![1; LONGEST];
         let half = (Side::Plain.reader().cut)(settings, &file, half_of_numbers(), &mut out).length;
         Work {
@@ -43,8 +45,8 @@ impl Work {
             first: joined,
             out,
             half,
-            records: vec![[1; 3]; counted.count],
-            frames: vec![frame; counted.count],
+            records: vec![[1; 4]; counted.count],
+            rows: vec![row; counted.count],
         }
     }
 
@@ -71,7 +73,7 @@ fn frame_table(side: Side, work: &mut Work) -> Told {
             let answer = (side.reader().frame_table)(work.settings, file, &mut work.records);
             (answer.refusal, answer.count, 0)
         }
-        Side::Plain => match read(work.settings, file).and_then(|trace| trace.frame_table(&mut work.frames)) {
+        Side::Plain => match read(work.settings, file).and_then(|trace| trace.frame_table(&mut work.rows)) {
             Ok(count) => (0, count, 0),
             Err(refusal) => (refusal as u8, 0, 0),
         },
@@ -186,9 +188,15 @@ impl Question {
 }
 
 fn compare_tables(work: &Work) {
-    let same = work.records.iter().zip(&work.frames).all(|(record, frame)| {
-        let record = fields(record);
-        record.tracepoint == frame.tracepoint && record.place == frame.data.place && record.size == frame.data.length
+    let same = work.records.iter().zip(&work.rows).all(|(record, &TableRow { frame, registers })| {
+        let expected = tufakpeni_tests::c::Frame {
+            tracepoint: frame.tracepoint,
+            has_registers: registers.is_some().into(),
+            place: frame.data.place,
+            size: frame.data.length,
+            registers_place: registers.map_or(0, NonZeroUsize::get),
+        };
+        fields(record) == expected
     });
     assert!(same, "the frame tables differ");
 }

@@ -43,7 +43,7 @@ pub struct Table {
 impl Table {
     pub fn new(length: usize) -> Self {
         let word = |place: usize| (place as u64 + 1).wrapping_mul(0x9E37_79B9_7F4A_7C15);
-        let records = (0..length + 2 * GUARD).map(|n| [word(3 * n), word(3 * n + 1), word(3 * n + 2)]).collect();
+        let records = (0..length + 2 * GUARD).map(|n| [0, 1, 2, 3].map(|k| word(4 * n + k))).collect();
         Table { records }
     }
 

@@ -2,6 +2,7 @@
 
 use super::{Base, Order, Part, Refusal, Settings, MAX_LENGTH};
 use std::mem;
+use std::num::NonZeroUsize;
 
 const HEAD: &[u8; 8] = b"\x7fTRACE0\n";
 const LINE_END: u8 = b'\n';
@@ -54,6 +55,13 @@ impl Frame {
     pub fn whole(self) -> Part {
         Part { place: self.data.place - FRAME_HEAD, length: FRAME_HEAD + self.data.length }
     }
+}
+
+/// A frame as the table has it: with the place of its earliest register block's bytes, if it has one. Ahead of them stands the head.
+#[derive(Clone, Copy, Debug, PartialEq, Eq)]
+pub struct Row {
+    pub frame: Frame,
+    pub registers: Option<NonZeroUsize>,
 }
 
 /// A block of a frame; `place` is its letter's.
@@ -182,10 +190,11 @@ impl<'a> Trace<'a> {
     }
 
     /// Fills one record per frame and tells how many there are.
-    pub fn frame_table(&self, records: &mut [Frame]) -> Result<usize, Refusal> {
-        let records = records.get_mut(..self.frame_count).ok_or(Refusal::NoRoom)?;
-        for (record, frame) in records.iter_mut().zip(self.frames()) {
-            *record = frame;
+    pub fn frame_table(&self, rows: &mut [Row]) -> Result<usize, Refusal> {
+        let rows = rows.get_mut(..self.frame_count).ok_or(Refusal::NoRoom)?;
+        for (row, frame) in rows.iter_mut().zip(self.frames()) {
+            let registers = self.registers_in(frame).and_then(|part| NonZeroUsize::new(part.place));
+            *row = Row { frame, registers };
         }
         Ok(self.frame_count)
     }
@@ -209,7 +218,11 @@ impl<'a> Trace<'a> {
     }
 
     fn blocks(&self, n: usize) -> Result<impl Iterator<Item = Block> + 'a, Refusal> {
-        Ok(self.walk_blocks(self.frame(n)?).map_while(Result::ok))
+        Ok(self.blocks_of(self.frame(n)?))
+    }
+
+    fn blocks_of(&self, frame: Frame) -> impl Iterator<Item = Block> + 'a {
+        self.walk_blocks(frame).map_while(Result::ok)
     }
 
     /// Block k of frame n.
@@ -219,11 +232,14 @@ impl<'a> Trace<'a> {
 
     /// The bytes of frame n's earliest register block.
     pub fn registers(&self, n: usize) -> Result<Part, Refusal> {
-        let found = self.blocks(n)?.find_map(|block| match block.kind {
+        self.registers_in(self.frame(n)?).ok_or(Refusal::NotFound)
+    }
+
+    fn registers_in(&self, frame: Frame) -> Option<Part> {
+        self.blocks_of(frame).find_map(|block| match block.kind {
             BlockKind::Registers { length } => Some(Part { place: block.place + 1, length: length.into() }),
             _ => None,
-        });
-        found.ok_or(Refusal::NotFound)
+        })
     }
 
     /// Memory at an address in frame n, to the end of the earliest block that covers it.
