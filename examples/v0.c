@@ -6,11 +6,10 @@
  */
 #include <stdio.h>
 #include <stdlib.h>
-#include <string.h>
 
 #include "tufakpeni.h"
 
-enum { FRAME_HEAD = 6, BLOCK = 776, V0 = 264, V0_SIZE = 16 };
+enum { BLOCK = 776, V0 = 264, V0_SIZE = 16 };
 
 /* A library of another interface would take these structs for others. */
 static void demand_fit(void)
@@ -48,39 +47,33 @@ static uint8_t *contents(const char *name, size_t *length)
     return file;
 }
 
-/* v0 of frame 0. */
-static void print_v0(tfk_settings settings, const uint8_t *trace, size_t length)
+/* How many bytes a register block has: as many in every frame. A frame that has one tells; 0 where none has. */
+static size_t block_size(tfk_settings settings, const uint8_t *file, size_t length, const tfk_frame *frames, size_t count)
 {
-    tfk_place registers = tfk_registers_place(settings, trace, length, 0);
-    if (registers.refusal == TFK_NOT_FOUND) {
-        printf(" no registers\n");
-    } else if (registers.length != BLOCK) {
-        printf(" a register block of %zu bytes\n", registers.length);
-    } else {
-        for (size_t i = 0; i < V0_SIZE; i++) {
-            printf(" %02x", trace[registers.place + V0 + i]);
+    for (size_t n = 0; n < count; n++) {
+        if (frames[n].has_registers) {
+            return tfk_registers_place(settings, file, length, n).length;
         }
-        printf("\n");
     }
+    return 0;
 }
 
-/*
- * A question reads the whole file that it is given, so asking the file about every frame takes the square of its
- * length. The opening and one frame are a trace too, in which the frame is frame 0.
- */
-static void print_frames(tfk_settings settings, const uint8_t *file, size_t length, const tfk_frame *frames,
-                         size_t count)
+/* Every frame's v0. The table has the place of its registers, so no frame is asked about. */
+static void print_frames(const uint8_t *file, const tfk_frame *frames, size_t count, size_t size)
 {
-    uint8_t *alone = room_for(length);
-    size_t opening = count > 0 ? frames[0].place - FRAME_HEAD : length;
-    memcpy(alone, file, opening);
     for (size_t n = 0; n < count; n++) {
-        size_t size = FRAME_HEAD + frames[n].size;
-        memcpy(alone + opening, file + frames[n].place - FRAME_HEAD, size);
         printf("frame %zu, tracepoint %u:", n, (unsigned)frames[n].tracepoint);
-        print_v0(settings, alone, opening + size);
+        if (!frames[n].has_registers) {
+            printf(" no registers\n");
+        } else if (size != BLOCK) {
+            printf(" a register block of %zu bytes\n", size);
+        } else {
+            for (size_t i = 0; i < V0_SIZE; i++) {
+                printf(" %02x", file[frames[n].registers_place + V0 + i]);
+            }
+            printf("\n");
+        }
     }
-    free(alone);
 }
 
 int main(int argc, char **argv)
@@ -97,7 +90,7 @@ int main(int argc, char **argv)
     tfk_frame *frames = room_for(count.count * sizeof *frames);
     if (count.refusal == 0) {
         tfk_frame_table(little, file, length, frames, count.count);
-        print_frames(little, file, length, frames, count.count);
+        print_frames(file, frames, count.count, block_size(little, file, length, frames, count.count));
     } else {
         fprintf(stderr, "refused %d\n", count.refusal);
     }

@@ -8,7 +8,7 @@
 # %%
 import sys
 
-from tufakpeni import Refusal, Refused, Trace
+from tufakpeni import Refused, Trace
 
 BLOCK = 776
 V0 = slice(264, 280)
@@ -17,12 +17,9 @@ V0 = slice(264, 280)
 # %%
 def v0(frame):
     """v0 of a frame, as text."""
-    try:
-        registers = frame.registers
-    except Refused as refused:
-        if refused.number == Refusal.NOT_FOUND:
-            return 'no registers'
-        raise
+    if frame.registers_place is None:
+        return 'no registers'
+    registers = frame.registers
     if len(registers) != BLOCK:
         return f'a register block of {len(registers)} bytes'
     return registers[V0].hex(' ')

@@ -45,9 +45,10 @@ int is_range(tfk_cpu_range answer, uint8_t refusal, uint64_t offset, uint64_t si
     return answer.refusal == refusal && answer.offset == offset && answer.size == size;
 }
 
-int is_frame(tfk_frame answer, uint16_t tracepoint, size_t place, size_t size)
+int is_frame(tfk_frame answer, uint16_t tracepoint, size_t place, size_t size, size_t registers)
 {
-    return answer.tracepoint == tracepoint && answer.place == place && answer.size == size;
+    return answer.tracepoint == tracepoint && answer.place == place && answer.size == size &&
+           answer.has_registers == (registers != 0) && answer.registers_place == registers;
 }
 
 static int same_block(tfk_block one, tfk_block other)

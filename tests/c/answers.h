@@ -13,7 +13,8 @@ int is_value(tfk_value answer, uint8_t refusal, int64_t value);
 int is_length(tfk_length answer, uint8_t refusal, size_t length);
 int is_part(tfk_pair_part answer, uint8_t refusal, uint8_t trace, size_t place, size_t length);
 int is_range(tfk_cpu_range answer, uint8_t refusal, uint64_t offset, uint64_t size);
-int is_frame(tfk_frame answer, uint16_t tracepoint, size_t place, size_t size);
+/* `registers` is 0 where the frame has none. */
+int is_frame(tfk_frame answer, uint16_t tracepoint, size_t place, size_t size, size_t registers);
 
 int is_registers(tfk_block answer, size_t place);
 int is_memory(tfk_block answer, size_t place, uint64_t address, size_t length);

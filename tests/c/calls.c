@@ -80,6 +80,9 @@ static void table_filled(tfk_settings settings, const uint8_t *file, size_t leng
     CHECK(is_count(tfk_frame_table(settings, file, length, table, frames + more), 0, frames));
     for (size_t n = 0; n < frames; n++) {
         CHECK(is_place(tfk_frame_place(settings, file, length, n), 0, table[n].place, table[n].size));
+        tfk_place registers = tfk_registers_place(settings, file, length, n);
+        CHECK(registers.refusal == (table[n].has_registers ? 0 : TFK_NOT_FOUND));
+        CHECK(table[n].has_registers <= 1 && registers.place == table[n].registers_place);
     }
     CHECK(all_pattern(table + frames, more * sizeof *table));
     free(table);

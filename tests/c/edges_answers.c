@@ -35,7 +35,7 @@ static void two_registers(tfk_settings settings)
 {
     asked trace = opened(TWO_REGISTERS, settings);
     tfk_frame record;
-    CHECK(is_count(tfk_frame_table(ASKED(trace), &record, 1), 0, 1) && is_frame(record, 1, 19, 3));
+    CHECK(is_count(tfk_frame_table(ASKED(trace), &record, 1), 0, 1) && is_frame(record, 1, 19, 3, 20));
     CHECK(is_line(tfk_line_place(ASKED(trace), 0), 0, TFK_LINE_R, 8, 3));
     CHECK(is_line(tfk_line_place(ASKED(trace), 1), TFK_NOT_FOUND, 0, 0, 0));
     CHECK(is_place(tfk_registers_place(ASKED(trace), 0), 0, 20, 2));
@@ -89,7 +89,7 @@ static void blocks_of_every_kind(tfk_settings settings)
     asked trace = opened(EVERY_BLOCK, settings);
     tfk_frame records[2];
     CHECK(is_count(tfk_frame_table(ASKED(trace), records, 2), 0, 2));
-    CHECK(is_frame(records[0], 65535, 19, 40) && is_frame(records[1], 7, 65, 17));
+    CHECK(is_frame(records[0], 65535, 19, 40, 44) && is_frame(records[1], 7, 65, 17, 66));
     CHECK(is_variable(tfk_block_record(ASKED(trace), 0, 0), 19, UINT32_MAX, INT64_MIN));
     CHECK(is_memory(tfk_block_record(ASKED(trace), 0, 1), 32, 0x4D, 0));
     CHECK(is_registers(tfk_block_record(ASKED(trace), 0, 2), 43));
@@ -108,6 +108,8 @@ static void blocks_of_every_kind(tfk_settings settings)
 static void registers_of_no_size(tfk_settings settings)
 {
     asked trace = opened(NO_REGISTER_BYTES, settings);
+    tfk_frame record;
+    CHECK(is_count(tfk_frame_table(ASKED(trace), &record, 1), 0, 1) && is_frame(record, 1, 19, 12, 20));
     CHECK(is_place(tfk_registers_place(ASKED(trace), 0), 0, 20, 0));
     CHECK(is_registers(tfk_block_record(ASKED(trace), 0, 0), 19));
     CHECK(is_memory(tfk_block_record(ASKED(trace), 0, 1), 20, 0x0101010101010101, 0));
@@ -118,6 +120,8 @@ static void registers_of_no_size(tfk_settings settings)
 static void registers_of_no_size_last(tfk_settings settings)
 {
     asked trace = opened(NO_REGISTER_BYTES_LAST, settings);
+    tfk_frame record;
+    CHECK(is_count(tfk_frame_table(ASKED(trace), &record, 1), 0, 1) && is_frame(record, 1, 19, 12, trace.length));
     CHECK(is_memory(tfk_block_record(ASKED(trace), 0, 0), 19, 0x0101010101010101, 0));
     CHECK(is_registers(tfk_block_record(ASKED(trace), 0, 1), 30));
     CHECK(is_place(tfk_registers_place(ASKED(trace), 0), 0, trace.length, 0));
@@ -131,7 +135,7 @@ static void before_the_mark(tfk_settings settings)
     tfk_frame records[2];
     CHECK(is_mark(tfk_end_mark(ASKED(trace)), 0, 1));
     CHECK(is_count(tfk_frame_table(ASKED(trace), records, 2), 0, 2));
-    CHECK(is_frame(records[0], 1, 19, 3) && is_frame(records[1], 2, 28, 31));
+    CHECK(is_frame(records[0], 1, 19, 3, 20) && is_frame(records[1], 2, 28, 31, 29));
     CHECK(is_place(tfk_frame_place(ASKED(trace), 1), 0, 28, trace.length - MARK - 28));
     CHECK(is_registers(tfk_block_record(ASKED(trace), 1, 0), 28));
     CHECK(is_variable(tfk_block_record(ASKED(trace), 1, 1), 31, 1, -1));

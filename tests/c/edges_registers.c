@@ -53,6 +53,9 @@ static const row ROWS[] = {
     {"one block in each frame, last and first", "R 2\n", 2, {"VR", "RM", "MRV"}, 0},
     {"one block in the first frame and the last", "R 2\n", 2, {"R", "", "R"}, 0},
     {"a frame without one", "R 2\n", 2, {"MV", "R", "V"}, 0},
+    {"first, last and between memory blocks", "R 2\n", 2, {"RM", "MMR", "MRM"}, 0},
+    {"an R line and no register block", "R 2\n", 2, {"M", "", "V"}, 0},
+    {"no R line", "tp 1\n", 0, {"MV", "", "M"}, 0},
     {"two in the second frame", "R 2\n", 2, {"R", "RR"}, TFK_SECOND_REGISTERS},
     {"two in the last frame", "R 2\n", 2, {"", "V", "VRMR"}, TFK_SECOND_REGISTERS},
     {"two in each frame", "R 2\n", 2, {"RR", "RR", "RR"}, TFK_SECOND_REGISTERS},
@@ -154,12 +157,26 @@ static int has_registers(tfk_settings settings, const uint8_t *file, size_t leng
     return place != 0 ? is_place(answer, 0, place, size) : is_place(answer, TFK_NOT_FOUND, 0, 0);
 }
 
+/* The table has each frame's own registers: none of the frame before, and none where there are none. */
+static void tabled(tfk_settings settings, const uint8_t *file, const written *trace)
+{
+    size_t length = trace->file.length;
+    tfk_frame *records = patterned(trace->frames * sizeof *records);
+    CHECK(is_count(tfk_frame_table(settings, file, length, records, trace->frames), 0, trace->frames));
+    for (size_t n = 0; n < trace->frames; n++) {
+        tfk_place data = tfk_frame_place(settings, file, length, n);
+        CHECK(is_frame(records[n], (uint16_t)(NUMBER + n), data.place, data.length, trace->registers[n]));
+    }
+    free(records);
+}
+
 /* Every call reads the file; each frame has its blocks and its own registers. */
 static void accepted(tfk_settings settings, const written *trace, const row *given, uint8_t marked)
 {
     size_t length = trace->file.length;
     uint8_t *file = exactly(trace->file.bytes, length);
     all_accept(settings, file, length, trace->opening, trace->frames, marked);
+    tabled(settings, file, trace);
     for (size_t n = 0; n < trace->frames; n++) {
         size_t blocks = strlen(given->frames[n]);
         for (size_t k = 0; k < blocks; k++) {

@@ -24,7 +24,10 @@ typedef struct {
 } table_case;
 
 #define FILE_OF(text) (text), sizeof(text) - 1
+/* A frame without registers, and one with them at this place. */
 #define FRAME(number, at, bytes) {.tracepoint = (number), .place = (at), .size = (bytes)}
+#define HELD(number, at, bytes, registers) \
+    {.tracepoint = (number), .has_registers = 1, .place = (at), .size = (bytes), .registers_place = (registers)}
 
 /* One frame, then 5 bytes; then data past the file; then three bytes of 0: all read alike in either order. */
 #define SHORT_HEAD BARE "\1\0\0\0\0\0" "\1\0\0\0\0"
@@ -35,13 +38,13 @@ typedef struct {
 #define THREE_SIZES HEAD "R 2\n\n" "\1\0\3\0\0\0" "RMM" "\2\0\15\0\0\0" "V\1\0\0\0\377\377\377\377\377\377\377\377" "\1\0\0\0\0\0"
 
 static const table_case CASES[] = {
-    {"two registers, little", 0, FILE_OF(HEAD "R 2\n\n" "\1\0\3\0\0\0" "R\252\273"), 0, 1, {FRAME(1, 19, 3)}},
-    {"two registers, big", 1, FILE_OF(HEAD "R 2\n\n" "\0\1\0\0\0\3" "R\252\273"), 0, 1, {FRAME(1, 19, 3)}},
-    {"sizes 3, 13 and 0", 0, FILE_OF(THREE_SIZES), 0, 3, {FRAME(1, 19, 3), FRAME(2, 28, 13), FRAME(1, 47, 0)}},
+    {"two registers, little", 0, FILE_OF(HEAD "R 2\n\n" "\1\0\3\0\0\0" "R\252\273"), 0, 1, {HELD(1, 19, 3, 20)}},
+    {"two registers, big", 1, FILE_OF(HEAD "R 2\n\n" "\0\1\0\0\0\3" "R\252\273"), 0, 1, {HELD(1, 19, 3, 20)}},
+    {"sizes 3, 13 and 0", 0, FILE_OF(THREE_SIZES), 0, 3, {HELD(1, 19, 3, 20), FRAME(2, 28, 13), FRAME(1, 47, 0)}},
     {"no frames, little", 0, FILE_OF(BARE), 0, 0, {{0}}},
     {"no frames, big", 1, FILE_OF(BARE), 0, 0, {{0}}},
     {"sizes 3, 13 and 0, marked", 0, FILE_OF(THREE_SIZES END_MARK), 0, 3,
-     {FRAME(1, 19, 3), FRAME(2, 28, 13), FRAME(1, 47, 0)}},
+     {HELD(1, 19, 3, 20), FRAME(2, 28, 13), FRAME(1, 47, 0)}},
     {"no frames, marked, little", 0, FILE_OF(BARE END_MARK), 0, 0, {{0}}},
     {"no frames, marked, big", 1, FILE_OF(BARE END_MARK), 0, 0, {{0}}},
     {"no frames, order 2", 2, FILE_OF(BARE), TFK_BAD_ARGUMENT, 0, {{0}}},
@@ -67,16 +70,18 @@ static const table_case CASES[] = {
      FILE_OF(HEAD "R 2\n\n" "\0\1\0\0\0\0" "\0\1\0\0\0\6" TWO_BLOCKS), TFK_SECOND_REGISTERS, 0, {{0}}},
 };
 
-/* Record k before. */
+/* Record k before. Its yes or no is neither. */
 static tfk_frame before(size_t k)
 {
-    tfk_frame record = FRAME((uint16_t)(9000 + k), 900 + k, 90 + k);
+    tfk_frame record = HELD((uint16_t)(9000 + k), 900 + k, 90 + k, 70 + k);
+    record.has_registers = (uint8_t)(200 + k);
     return record;
 }
 
 static int same_frame(tfk_frame one, tfk_frame other)
 {
-    return is_frame(one, other.tracepoint, other.place, other.size);
+    return one.tracepoint == other.tracepoint && one.has_registers == other.has_registers && one.place == other.place &&
+           one.size == other.size && one.registers_place == other.registers_place;
 }
 
 /* The table of a file into all records: the answer, the frames' records, and those beyond as they were. */

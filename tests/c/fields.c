@@ -34,7 +34,7 @@ static void answered(void)
     begin("the answers of a trace");
     CHECK(is_count(tfk_frame_count(ASKED(trace)), 0, 2));
     CHECK(is_mark(tfk_end_mark(ASKED(marked)), 0, 1));
-    CHECK(is_count(tfk_frame_table(ASKED(trace), records, 2), 0, 2) && is_frame(records[1], 7, 65, 17));
+    CHECK(is_count(tfk_frame_table(ASKED(trace), records, 2), 0, 2) && is_frame(records[1], 7, 65, 17, 66));
     CHECK(is_line(tfk_line_place(ASKED(trace), 0), 0, TFK_LINE_R, 8, 3));
     CHECK(is_place(tfk_registers_place(ASKED(trace), 1), 0, 66, 3));
     CHECK(is_memory(tfk_block_record(ASKED(trace), 0, 3), 47, 0x4D, 1));

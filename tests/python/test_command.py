@@ -51,7 +51,7 @@ class Command(Case):
     def test_one_frame(self):
         ended = command('samples/board.tf', '--frame', '4')
         self.assertEqual(ended.stdout, 'register blocks of 776 bytes: `R 308` in base 16\n'
-                                       'frames 6, no end mark\n  frame 4: tracepoint 3, 15 bytes at 2713\n')
+                                       'frames 6, no end mark\n  frame 4: tracepoint 3, 15 bytes at 2713, no registers\n')
 
     def test_the_end_mark(self):
         self.shows('marked.txt', 'samples/marked.tf', '--frames')
@@ -83,7 +83,8 @@ class Command(Case):
         file = self.made(LITTLE.trace(['R 776'], frame))
         self.assertEqual(command(file, '--base', '10', '--blocks').stdout.splitlines(), [
             'register blocks of 776 bytes: `R 776` in base 10', 'frames 1, no end mark',
-            '  frame 0: tracepoint 1, 790 bytes at 21', '    R at 21: 776 bytes', '    V at 798: variable 1 = 2'])
+            '  frame 0: tracepoint 1, 790 bytes at 21, registers at 22', '    R at 21: 776 bytes',
+            '    V at 798: variable 1 = 2'])
         ended = command(file, '--blocks')
         self.assertEqual((ended.stdout, ended.stderr, ended.returncode), (
             '', "refused 9: a block runs past its frame's data\n"

@@ -143,6 +143,77 @@ class Frames(Case):
         self.assertEqual(data[0], ord('V'))
 
 
+class Tables(Case):
+    """C-19: the table has the place of each frame's registers."""
+
+    LETTERS = b'RRR'
+
+    def made(self, made):
+        """The lines and the frames of a trace, and of each frame its registers and how far they stand into its data."""
+        memory, block = made.memory(0x52, self.LETTERS), made.registers(b'ab')
+        return ['R 2'], [
+            ((), None), ((memory, made.variable(1, 0x52)), None), ((block, memory), 1), ((memory, memory, block), 29),
+            ((memory, block, memory), 15), ((), None), ((made.registers(b'RR'),), 1), ((made.variable(0x52, 0x52),), None)]
+
+    def places(self, trace):
+        return [frame.registers_place for frame in trace]
+
+    def test_places(self):
+        for made in BOTH:
+            lines, frames = self.made(made)
+            file = made.trace(lines, *(made.frame(n + 1, *blocks) for n, (blocks, _) in enumerate(frames)))
+            for mark in (b'', MARK):
+                trace = Trace(file + mark, made.order)
+                expected = [None if at is None else frame.place + at for frame, (_, at) in zip(trace, frames)]
+                self.assertEqual(self.places(trace), expected)
+                for frame, (blocks, at) in zip(trace, frames):
+                    self.agrees(trace, frame)
+                    if at is not None:
+                        self.assertEqual(bytes(frame.registers), bytes(frame.data[at:at + 2]))
+
+    def agrees(self, trace, frame):
+        """With the library's own answer about the file."""
+        answer = _library.call('tfk_registers_place', trace._settings, *trace._files, frame.number)
+        if frame.registers_place is None:
+            self.assertEqual((answer.refusal, answer.place), (12, 0))
+            self.refused(12, lambda: frame.registers)
+        else:
+            self.assertEqual((answer.refusal, answer.place), (0, frame.registers_place))
+            self.assertEqual(len(frame.registers), answer.length)
+
+    def test_no_size(self):
+        """A block of no bytes is there, and its place may be the file's length."""
+        for made in BOTH:
+            file = made.trace(['R 0'], made.frame(1, made.registers(b''), made.variable(1, 1)), made.frame(2),
+                              made.frame(3, made.memory(1, self.LETTERS), made.registers(b'')))
+            trace = Trace(file, made.order)
+            self.assertEqual(self.places(trace), [20, None, len(file)])
+            self.assertEqual([bytes(trace.frame(n).registers) for n in (0, 2)], [b'', b''])
+
+    def test_no_r_line(self):
+        for made in BOTH:
+            trace = Trace(made.trace(['tp R 2'], made.frame(1, made.memory(0x52, self.LETTERS)), made.frame(2)), made.order)
+            self.assertEqual(self.places(trace), [None, None])
+            self.refused(12, lambda: trace.frame(0).registers)
+
+    def test_both_bases(self):
+        """One place, and as many bytes from there as the R line says in the base of the trace."""
+        for made in BOTH:
+            inner = made.memory(0x4D, bytes(1435))
+            file = made.trace(['R 974'], made.frame(1, made.registers(bytes(974)), inner))
+            ten, sixteen = (Trace(file, made.order, base).frame(0) for base in (10, 16))
+            self.assertEqual((ten.registers_place, sixteen.registers_place), (22, 22))
+            self.assertEqual((bytes(ten.registers), bytes(sixteen.registers)), (bytes(974), bytes(974) + inner))
+
+    def test_no_question_more(self):
+        """Registers of every frame are had without a call, and the R line is looked for once."""
+        frames = [LITTLE.frame(n, LITTLE.variable(1, n), LITTLE.registers(bytes([n] * 5))) for n in range(1, 50)]
+        trace = Trace(LITTLE.trace(['tp T1', 'R 5'], *frames))
+        with mock.patch.object(_library, 'call', side_effect=_library.call) as call:
+            self.assertEqual([bytes(frame.registers) for frame in trace], [bytes([n] * 5) for n in range(1, 50)])
+        self.assertEqual([given.args[0] for given in call.call_args_list], ['tfk_line_place'] * 2)
+
+
 class Marks(Case):
     def test_marked_and_not(self):
         for made in BOTH:
@@ -298,8 +369,8 @@ class WholeFile(Case):
         with mock.patch.object(_library, 'lent', counted):
             for frame in Trace(file):
                 self.assertEqual((len(frame.blocks), len(frame.registers)), (2, 100))
-        # Twice for the table; three questions for the blocks of a frame, one for its registers, each with the opening.
-        self.assertLess(sum(given), 7 * len(file))
+        # Twice for the table; three questions for the blocks of a frame, each with the opening; none for its registers.
+        self.assertLess(sum(given), 6 * len(file))
 
 
 if __name__ == '__main__':

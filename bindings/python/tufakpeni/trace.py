@@ -1,4 +1,5 @@
 """GDB traces: lines, frames and blocks, as parts of the caller's bytes."""
+import functools
 import itertools
 from typing import NamedTuple
 
@@ -52,9 +53,10 @@ def answers(name, *arguments):
 
 
 class Frame:
-    """A frame: its number in the trace, its tracepoint's number, and the place and size of its data."""
+    """A frame: its number in the trace, its tracepoint's number, and the place and size of its data. `registers_place` is
+    the place of its register block's bytes, None where it has no such block."""
 
-    __slots__ = ('_trace', 'number', 'tracepoint', 'place', 'size')
+    __slots__ = ('_trace', 'number', 'tracepoint', 'place', 'size', 'registers_place')
 
     def __init__(self, trace, number, record):
         self._trace = trace
@@ -62,6 +64,7 @@ class Frame:
         self.tracepoint = record.tracepoint
         self.place = record.place
         self.size = record.size
+        self.registers_place = record.registers_place if record.has_registers else None
 
     def __repr__(self):
         return f'<frame {self.number}: tracepoint {self.tracepoint}, {self.size} bytes at {self.place}>'
@@ -81,14 +84,20 @@ class Frame:
 
     @property
     def registers(self):
-        """The bytes of the frame's register block. It is the only one: a file with two in a frame is refused."""
-        return self._part('tfk_registers_place')
+        """The bytes of the frame's register block. It is the only one: a file with two in a frame is refused.
+
+        They come from the table: their place from the frame's record, and their number from the R line."""
+        if self.registers_place is None:
+            raise Refused(Refusal.NOT_FOUND)
+        return self._trace.part(self.registers_place, self._trace.register_size)
 
     def memory(self, address):
         """The bytes from an address to the end of the earliest memory block that covers it."""
         if not fits(address, 64):
             raise Refused(Refusal.NOT_FOUND)
-        return self._part('tfk_memory_place', address)
+        alone, moved = self._alone()
+        answer = ask('tfk_memory_place', self._trace._settings, alone, 0, address)
+        return self._trace.part(answer.place + moved, answer.length)
 
     def variable(self, number):
         """The value in the latest variable block with this number."""
@@ -106,11 +115,6 @@ class Frame:
         opening = self._trace.opening
         frame = self._trace.part(head, FRAME_HEAD + self.size)
         return memoryview(b''.join((opening, frame))), head - len(opening)
-
-    def _part(self, question, *arguments):
-        alone, moved = self._alone()
-        answer = ask(question, self._trace._settings, alone, 0, *arguments)
-        return self._trace.part(answer.place + moved, answer.length)
 
     def _block(self, record, end, moved):
         place, end = record.place + moved, end + moved
@@ -191,7 +195,7 @@ class Trace(Holder):
         """The R line; None where there is none."""
         return next((line for line in self._lines() if line.kind == 'R'), None)
 
-    @property
+    @functools.cached_property
     def register_size(self):
         """How many bytes a register block has by the R line; None where there is no such line."""
         line = self.register_line

@@ -38,11 +38,18 @@ def lines(trace):
         yield f'  {j} {line.kind} at {line.place}: {text(line.data)}'
 
 
+def record(frame):
+    """What the table tells of a frame."""
+    place = frame.registers_place
+    registers = 'no registers' if place is None else f'registers at {place}'
+    return f'frame {frame.number}: tracepoint {frame.tracepoint}, {frame.size} bytes at {frame.place}, {registers}'
+
+
 def frames(trace, chosen, details):
     """The chosen frames, each with what the functions `details` show of it."""
     yield f'frames {len(trace)}, {"then the end mark" if trace.marked else "no end mark"}'
     for frame in chosen:
-        yield f'  frame {frame.number}: tracepoint {frame.tracepoint}, {frame.size} bytes at {frame.place}'
+        yield '  ' + record(frame)
         for detail in details:
             yield from indented(2, detail(frame))
 
@@ -59,12 +66,11 @@ def blocks(frame):
 
 
 def registers(frame):
+    """That there are none the frame's own line says."""
     with absence_passed():
         data = frame.registers
         yield f'registers: {len(data)} bytes'
         yield from indented(1, rows(data))
-        return
-    yield 'no registers'
 
 
 def variables(frame):

@@ -3,6 +3,7 @@ pub mod Edges
 pub mod Marks
 pub mod Registers
 pub mod Variables
+pub mod Tables
 pub mod Bases
 pub mod ListingCases
 pub mod Limit

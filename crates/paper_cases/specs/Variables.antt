@@ -16,7 +16,7 @@ use Rattle.paper_cases.specs.Cases.{memory, variable, bytes, value, Case
 use Rattle.paper_cases.specs.Edges.{ordered, framed, registerLine}
 
 -- `V` with a number and a value below 256, in byte order o; and with the value -1
-abbrev valued : ℕ → ℕ → ℕ → List ℕ
+abbrev pub valued : ℕ → ℕ → ℕ → List ℕ
 valued zero n x = 0x56 ∷ n ∷ 0 ∷ 0 ∷ 0 ∷ x ∷ replicate 7 0
 valued (suc o) n x = 0x56 ∷ 0 ∷ 0 ∷ 0 ∷ n ∷ replicate 7 0 ++ x ∷ []
 
@@ -30,12 +30,12 @@ wide zero x = 0x56 ∷ 1 ∷ 0 ∷ 0 ∷ 1 ∷ x ∷ replicate 7 0
 wide (suc o) x = 0x56 ∷ 1 ∷ 0 ∷ 0 ∷ 1 ∷ replicate 7 0 ++ x ∷ []
 
 -- `M` at an address below 256, with fewer than 256 bytes
-abbrev stored : ℕ → ℕ → List ℕ → List ℕ
+abbrev pub stored : ℕ → ℕ → List ℕ → List ℕ
 stored zero a d = 0x4D ∷ a ∷ replicate 7 0 ++ length d ∷ 0 ∷ d
 stored (suc o) a d = 0x4D ∷ replicate 7 0 ++ a ∷ 0 ∷ length d ∷ d
 
 -- `R` with the registers AA BB
-abbrev registered : List ℕ
+abbrev pub registered : List ℕ
 registered = 0x52 ∷ 0xAA ∷ 0xBB ∷ []
 
 -- `R d`: registers of 13 bytes, as many as a `V` block has
