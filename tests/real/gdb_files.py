@@ -87,11 +87,13 @@ def compare_frames(trace, expected):
 
 
 def compare_registers(trace, expected):
-    """Every byte of the first R block, by its offset there."""
+    """Every byte of the first R block, by its offset there. The frame's record has their place."""
     shown = {row['frame']: row['regs'] for row in expected}
     for frame in trace:
+        places = [block.place + 1 for block in frame.blocks if isinstance(block, Registers)]
+        same([frame.registers_place], places or [None], f'the record of frame {frame.number}')
         registers = shown.get(frame.number, [])
-        if not any(isinstance(block, Registers) for block in frame.blocks):
+        if not places:
             same({name for name, _, _ in registers} <= PROGRAM_COUNTERS, True, f'frame {frame.number}')
             continue
         data = bytearray(len(frame.registers))

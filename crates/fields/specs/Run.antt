@@ -8,7 +8,7 @@ use mathlib.Core.List.{List, [], _∷_}
 use lib.ListN.{length, drop, length-drop}
 use Rattle.fields.specs.Lists.{Each, clash}
 use Rattle.fields.specs.Number.{Bytes, bytes-back}
-use Rattle.fields.specs.Answer.{Answer, accepted, refused, next, next-inv, accepted-one}
+use Rattle.fields.specs.Answer.{Answer, accepted, refused, next-inv, accepted-one}
 use Rattle.fields.specs.Reader.{Reader, toEnd, runThen, runF, run, stepAt}
 use Rattle.fields.specs.Takes.{Takes, Shorter, shorter, toEnd-nil, toEnd-step}
 use Rattle.fields.specs.Exact.{Exact}

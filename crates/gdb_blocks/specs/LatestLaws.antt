@@ -1,17 +1,14 @@
 -- The search for the latest turn by turn, and the search for a variable.
 -- Assumes nothing.
 use mathlib.Core.Path.{_≡_, refl, sym, ap, ap₂, _∙_}
-use mathlib.Core.Bool.{Bool, true, false}
+use mathlib.Core.Bool.{true, false}
 use mathlib.Core.Option.{Option, none, some}
 use Prim.Native.Nat.{ℕ, _+_}
 use native.Mathlib.Omega.{arith}
 use mathlib.Core.List.{List, [], _∷_, _++_, reverseAux, append-assoc, append-nil}
-use lib.ListN.{length, drop, getD}
-use mir.Syntax.{w8}
-use mir.Val.{Fits}
+use lib.ListN.{length, drop}
 use Rattle.refusals.specs.Refusal.{notFound}
 use Rattle.fields.specs.Lists.{clash}
-use Rattle.fields.specs.Given.{bytes-given}
 use Rattle.fields.specs.Answer.{Answer, accepted, refused, next-cong}
 use Rattle.fields.specs.Reader.{stepAt, toEnd}
 use Rattle.fields.specs.At.{step-none, step-read, walk-end, walk-refused}
@@ -30,7 +27,7 @@ use Rattle.gdb_blocks.specs.Earliest.{orLater, earliest}
 use Rattle.gdb_blocks.specs.Latest.{latest, latest-then}
 use Rattle.gdb_blocks.specs.Held.{valueOf}
 use Rattle.gdb_blocks.specs.Search.{inFrame, variableAt, found, valueIn, valueThere}
-use Rattle.gdb_blocks.specs.SearchLaws.{Met, met, here-then}
+use Rattle.gdb_blocks.specs.SearchLaws.{Met, here-then}
 
 -- ---- a search for the latest, in all blocks
 
