@@ -2,7 +2,7 @@
 use crate::raw;
 use crate::run::{Elements, Run};
 use crate::trace::HEAD;
-use crate::Settings;
+use crate::{Base, Settings};
 use std::iter::FusedIterator;
 use std::ops::Range;
 
@@ -30,13 +30,25 @@ pub struct Block<'a> {
 pub(crate) struct Manner<'a> {
     pub settings: Settings,
     /// The R line with its end; empty where there is none.
-    pub register_line: &'a [u8],
+    register_line: &'a [u8],
+    /// How many bytes a register block has by that line.
+    pub register_size: Option<usize>,
 }
 
 /// The tracepoint number of a frame that is dressed: any but 0 would do, and this one has the same bytes in both orders.
 const TRACEPOINT: [u8; 2] = [1, 1];
 
-impl Manner<'_> {
+impl<'a> Manner<'a> {
+    /// By the R line of an accepted trace, with its end, or an empty one where there is none.
+    pub fn new(settings: Settings, register_line: &'a [u8]) -> Manner<'a> {
+        Manner { settings, register_line, register_size: size_of(settings.base, register_line) }
+    }
+
+    /// The size of a register block that is there.
+    pub fn block_size(&self) -> usize {
+        self.register_size.expect("a trace with a register block has an R line")
+    }
+
     /// Makes `trace` a trace of one frame with these blocks, and answers where they stand in it.
     pub fn dress(&self, blocks: &[u8], trace: &mut Vec<u8>) -> usize {
         let size = u32::try_from(blocks.len()).expect("a frame's size has four bytes");
@@ -50,6 +62,12 @@ impl Manner<'_> {
         trace.extend_from_slice(blocks);
         place
     }
+}
+
+/// The size that an R line says. The library let it through, so that digits of the base alone stand between `R ` and its end.
+fn size_of(base: Base, line: &[u8]) -> Option<usize> {
+    let digits = line.strip_prefix(b"R ")?.strip_suffix(b"\n")?;
+    usize::from_str_radix(std::str::from_utf8(digits).ok()?, base.number().into()).ok()
 }
 
 /// The blocks of a frame, in order. See [`Frame::blocks`](crate::Frame::blocks).
@@ -98,11 +116,11 @@ impl Run for Manner<'_> {
         Manner::dress(self, piece, trace)
     }
 
-    /// A register block's record has no length; that of the registers is its own, since a frame has no other.
+    /// A register block's record has no length: the R line says it.
     fn ask(&self, trace: &[u8], k: usize) -> Option<raw::Block> {
         let mut block = raw::block_record(self.settings, trace, 0, k).ok()?;
         if block.letter == b'R' {
-            block.length = raw::registers_place(self.settings, trace, 0).ok()?.length;
+            block.length = self.block_size();
         }
         Some(block)
     }

@@ -40,7 +40,7 @@ pub struct Line {
 }
 
 #[repr(C)]
-#[derive(Clone, Copy, Debug)]
+#[derive(Clone, Copy, Debug, Default)]
 pub struct Frame {
     pub tracepoint: u16,
     pub has_registers: u8,
@@ -178,7 +178,6 @@ calls! {
     ) -> Count;
     fn tfk_line_place(settings: Settings, file: *const u8, file_length: usize, j: usize) -> Line;
     fn tfk_block_record(settings: Settings, file: *const u8, file_length: usize, n: usize, k: usize) -> Block;
-    fn tfk_registers_place(settings: Settings, file: *const u8, file_length: usize, n: usize) -> Place;
     fn tfk_memory_place(settings: Settings, file: *const u8, file_length: usize, n: usize, address: u64) -> Place;
     fn tfk_variable(settings: Settings, file: *const u8, file_length: usize, n: usize, number: u32) -> Value;
     fn tfk_opposite(selection: Selection) -> Selection;
@@ -268,10 +267,6 @@ pub fn line_place(settings: crate::Settings, file: &[u8], j: usize) -> Result<Li
 
 pub fn block_record(settings: crate::Settings, file: &[u8], n: usize, k: usize) -> Result<Block, Refusal> {
     unsafe { tfk_block_record(settings.into(), file.as_ptr(), file.len(), n, k) }.answered()
-}
-
-pub fn registers_place(settings: crate::Settings, file: &[u8], n: usize) -> Result<Place, Refusal> {
-    unsafe { tfk_registers_place(settings.into(), file.as_ptr(), file.len(), n) }.answered()
 }
 
 pub fn memory_place(settings: crate::Settings, file: &[u8], n: usize, address: u64) -> Result<Place, Refusal> {

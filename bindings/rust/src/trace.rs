@@ -14,9 +14,10 @@ const MARK: usize = 4;
 
 /// A GDB trace that was read whole and accepted.
 ///
-/// Opening it reads the file twice, makes the frame table and finds the R line. Each later question costs in the order of the
-/// frame, or of the description, that it is about; only [`is_marked`](Trace::is_marked) reads the file again, and where there are no
-/// frames whatever asks for the opening, which is then all of the file but the mark.
+/// Opening it reads the file twice, makes the frame table and finds the R line. A frame's registers come from that table, with no
+/// further reading. Each other question costs in the order of the frame, or of the description, that it is about; only
+/// [`is_marked`](Trace::is_marked) reads the file again, and where there are no frames whatever asks for the opening, which is then
+/// all of the file but the mark.
 #[derive(Clone, Debug)]
 pub struct Trace<'a> {
     file: &'a [u8],
@@ -38,11 +39,10 @@ impl<'a> Trace<'a> {
     pub fn open(settings: impl Into<Settings>, file: &'a [u8]) -> Result<Trace<'a>, Refusal> {
         let settings = settings.into();
         let count = raw::frame_count(settings, file)?.count;
-        let mut frames = vec![raw::Frame { tracepoint: 0, place: 0, size: 0 }; count];
+        let mut frames = vec![raw::Frame::default(); count];
         raw::frame_table(settings, file, &mut frames)?;
-        let manner = Manner { settings, register_line: &[] };
-        let mut trace = Trace { file, manner, frames };
-        trace.manner.register_line = trace.register_line();
+        let mut trace = Trace { file, manner: Manner::new(settings, &[]), frames };
+        trace.manner = Manner::new(settings, trace.register_line());
         Ok(trace)
     }
 
@@ -62,6 +62,22 @@ impl<'a> Trace<'a> {
     /// The byte order that it was opened with.
     pub fn order(&self) -> Order {
         self.settings().order
+    }
+
+    /// How many bytes a register block has, as the R line says; none where there is no such line.
+    ///
+    /// ```
+    /// use tufakpeni::{Base, Order, Settings, Trace};
+    ///
+    /// let file = b"\x7fTRACE0\nR 308\n\n";
+    /// assert_eq!(Trace::open(Order::Little, file)?.register_size(), Some(776));
+    /// let decimal = Settings { order: Order::Little, base: Base::Ten };
+    /// assert_eq!(Trace::open(decimal, file)?.register_size(), Some(308));
+    /// assert_eq!(Trace::open(decimal, b"\x7fTRACE0\n\n")?.register_size(), None);
+    /// # Ok::<(), tufakpeni::Refusal>(())
+    /// ```
+    pub fn register_size(&self) -> Option<usize> {
+        self.manner.register_size
     }
 
     /// The head and the description, with the empty line that closes it.
@@ -163,9 +179,10 @@ impl<'a> Trace<'a> {
 
 /// A frame of a trace: what was collected at one hit of a tracepoint.
 ///
-/// Its blocks depend on the settings, the R line and its data alone. So the library is asked about them in a trace that has the
-/// R line and this frame and nothing else, and the place it answers is moved to the file: a question costs in the order of the
-/// frame, where in the file it would cost a reading of all of it.
+/// The frame table says where its data and its registers are, so that they cost nothing more. Its blocks depend on the settings, the
+/// R line and its data alone. So the library is asked about them in a trace that has the R line and this frame and nothing else, and
+/// the place it answers is moved to the file: a question costs in the order of the frame, where in the file it would cost a reading
+/// of all of it.
 #[derive(Clone, Copy, Debug)]
 pub struct Frame<'a> {
     file: &'a [u8],
@@ -227,6 +244,23 @@ impl<'a> Frame<'a> {
         self.part(found.place - data + self.record.place, found.length)
     }
 
+    /// The place of its register block's bytes in the file, which are behind the letter; none where it has no such block. A block of
+    /// size 0 has a place too, which may be the file's length.
+    ///
+    /// ```
+    /// use tufakpeni::{Order, Trace};
+    ///
+    /// let file = b"\x7fTRACE0\nR 2\n\n\x01\0\x03\0\0\0R\xAA\xBB\x01\0\0\0\0\0";
+    /// let trace = Trace::open(Order::Little, file)?;
+    /// assert_eq!(trace.frame(0)?.registers_place(), Some(20));
+    /// assert_eq!(file[20..22], [0xAA, 0xBB]);
+    /// assert_eq!(trace.frame(1)?.registers_place(), None);
+    /// # Ok::<(), tufakpeni::Refusal>(())
+    /// ```
+    pub fn registers_place(&self) -> Option<usize> {
+        (self.record.has_registers == 1).then_some(self.record.registers_place)
+    }
+
     /// The bytes of its `R` block. It has no other: a file with a second one in a frame is refused.
     ///
     /// ```
@@ -244,9 +278,8 @@ impl<'a> Frame<'a> {
     /// # Ok::<(), Refusal>(())
     /// ```
     pub fn registers(&self) -> Result<&'a [u8], Refusal> {
-        let (alone, data) = self.alone();
-        let found = raw::registers_place(self.manner.settings, &alone, 0)?;
-        Ok(self.moved(found, data))
+        let place = self.registers_place().ok_or(Refusal::NotFound)?;
+        Ok(self.part(place, self.manner.block_size()))
     }
 
     /// Memory from an address to the end of the earliest block that covers it. A block at the top of the address space runs on at address 0.

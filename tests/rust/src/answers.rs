@@ -1,7 +1,7 @@
 //! The second reader's answers in the structs of the C interface: on a refusal every other field is 0.
 
 use crate::c::{self, Block, Count, CpuRange, DatSummary, Length, Line, Mark, PairPart, Place, Value};
-use crate::reader::{Reader, Record};
+use crate::reader::{write_fields, Reader, Record};
 use crate::second::dat::{self, Ending, Summary};
 use crate::second::edit::{self, Pair, Selection, TracepointRange, Which};
 use crate::second::gdb::{self, BlockKind, Frame, LineKind, Row, Trace};
@@ -106,20 +106,24 @@ fn cpu_range(range: dat::CpuRange) -> CpuRange {
     CpuRange { refusal: 0, offset: range.offset, size: range.size }
 }
 
-/// Only the bytes of the fields are written, as C would.
 fn frame_table(settings: c::Settings, file: &[u8], records: &mut [Record]) -> Result<usize, Refusal> {
     let unset = Frame { tracepoint: 0, data: Part { place: 0, length: 0 } };
     let mut rows = vec![Row { frame: unset, registers: None }; records.len()];
     let count = read(settings, file)?.frame_table(&mut rows)?;
-    for (record, Row { frame, registers }) in records.iter_mut().zip(&rows[..count]) {
-        let mut first = record[0].to_ne_bytes();
-        first[..2].copy_from_slice(&frame.tracepoint.to_ne_bytes());
-        first[2] = registers.is_some().into();
-        let places = [frame.data.place, frame.data.length, registers.map_or(0, NonZeroUsize::get)];
-        let [place, size, registers_place] = places.map(|place| place as u64);
-        *record = [u64::from_ne_bytes(first), place, size, registers_place];
+    for (record, row) in records.iter_mut().zip(&rows[..count]) {
+        write_fields(record, frame(row));
     }
     Ok(count)
+}
+
+pub fn frame(Row { frame, registers }: &Row) -> c::Frame {
+    c::Frame {
+        tracepoint: frame.tracepoint,
+        has_registers: registers.is_some().into(),
+        place: frame.data.place,
+        size: frame.data.length,
+        registers_place: registers.map_or(0, NonZeroUsize::get),
+    }
 }
 
 fn line(line: gdb::Line) -> Line {

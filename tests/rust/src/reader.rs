@@ -22,6 +22,16 @@ pub fn fields(record: &Record) -> Frame {
     }
 }
 
+/// Writes a record's fields, and only their bytes, as C would.
+pub fn write_fields(record: &mut Record, frame: Frame) {
+    let mut first = record[0].to_ne_bytes();
+    first[..2].copy_from_slice(&frame.tracepoint.to_ne_bytes());
+    first[2] = frame.has_registers;
+    let places = [frame.place, frame.size, frame.registers_place];
+    let [place, size, registers_place] = places.map(|place| place as u64);
+    *record = [u64::from_ne_bytes(first), place, size, registers_place];
+}
+
 /// A reader of both formats. The first argument of a GDB call says how the trace is to be read.
 pub struct Reader {
     pub default_settings: fn(u8) -> Settings,

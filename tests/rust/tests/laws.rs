@@ -1,8 +1,9 @@
-//! The laws of cuts and joins, run on made traces of one opening and on random selections through the C interface, in both
-//! byte orders and both bases.
+//! The laws of cuts, joins and frame tables, run on made traces of one opening and on random selections through the C
+//! interface, in both byte orders and both bases.
 
 use tufakpeni_tests::answers::selection as of_c;
 use tufakpeni_tests::c::{Frame, Length, Selection, Settings};
+use tufakpeni_tests::compare::tables::all_agree;
 use tufakpeni_tests::library::LIBRARY;
 use tufakpeni_tests::make::gdb::{Trace, END_MARK};
 use tufakpeni_tests::make::{selection, settings, Random};
@@ -43,7 +44,7 @@ impl Round {
 
     /// The frames of a trace with their bytes, heads included.
     fn frames<'f>(&self, file: &'f [u8]) -> Vec<(Frame, &'f [u8])> {
-        let mut table = vec![[0; 3]; file.len()];
+        let mut table = vec![[0; 4]; file.len()];
         let answer = (LIBRARY.frame_table)(self.settings, file, &mut table);
         assert_eq!(answer.refusal, 0);
         let frames = table[..answer.count].iter().map(fields);
@@ -102,11 +103,24 @@ impl Round {
             let side = usize::from(!selects(&self.a, frame.tracepoint));
             let (stands, same_bytes) = parted[side][before[side]];
             assert_eq!((stands.tracepoint, same_bytes), (frame.tracepoint, bytes));
+            assert_eq!(registers_in(&stands), registers_in(&frame));
             before[side] += 1;
         }
         assert_eq!(before, [parted[0].len(), parted[1].len()]);
         assert_eq!(cuts[0].len() + cuts[1].len(), file.len() + self.opening.len() + self.mark.len());
     }
+
+    fn the_table_has_the_registers(&self) {
+        let [first, second, _] = &self.traces;
+        for file in [first, &self.cut(first, self.a), &self.join(first, second)] {
+            assert!(all_agree(&LIBRARY, self.settings, file));
+        }
+    }
+}
+
+/// Where a frame's registers stand in its data, by its record.
+fn registers_in(frame: &Frame) -> Option<usize> {
+    (frame.has_registers == 1).then(|| frame.registers_place - frame.place)
 }
 
 /// The output of a cut or join that may not be refused, up to the length that it tells.
@@ -124,13 +138,14 @@ fn selects(selection: &Selection, tracepoint: u16) -> bool {
 
 #[test]
 fn the_laws_hold() {
-    let laws: [fn(&Round); 6] = [
+    let laws: [fn(&Round); 7] = [
         Round::a_join_is_cut_as_its_parts_are,
         Round::cuts_commute,
         Round::joining_is_associative,
         Round::the_bare_opening_is_a_unit,
         Round::the_bare_marked_opening_marks,
         Round::a_selection_and_its_opposite_part_the_frames,
+        Round::the_table_has_the_registers,
     ];
     let seed = seed();
     for index in 0..ROUNDS {

@@ -1,4 +1,4 @@
-//! Document 01's own cases, "Both sides of each edge", those of requests C-11, C-13, C-18 and C-20, and those of
+//! Document 01's own cases, "Both sides of each edge", those of requests C-11, C-13, C-18, C-19 and C-20, and those of
 //! docs/DECISIONS.md, "How the papers are read", with values written out here.
 //! The second reader is held to them first, then the library.
 
@@ -16,6 +16,8 @@ use tufakpeni_tests::second::MAX_LENGTH;
 mod base;
 #[path = "paper/registers.rs"]
 mod registers;
+#[path = "paper/tables.rs"]
+mod tables;
 #[path = "paper/variables.rs"]
 mod variables;
 
@@ -59,7 +61,7 @@ fn refusal(reader: &Reader, settings: Settings, rest: &[u8]) -> u8 {
 
 /// This refusal and nothing else from every call about a trace, with every output as it was.
 fn every_call_refuses(reader: &Reader, settings: Settings, file: &[u8], refusal: u8) {
-    let (mut records, mut out) = ([[7; 3]; 2], [0xEE; 64]);
+    let (mut records, mut out) = ([[7; 4]; 2], [0xEE; 64]);
     assert_eq!((reader.frame_count)(settings, file), Answer::refused(refusal));
     assert_eq!((reader.end_mark)(settings, file), Answer::refused(refusal));
     assert_eq!((reader.frame_table)(settings, file, &mut records), Answer::refused(refusal));
@@ -73,7 +75,7 @@ fn every_call_refuses(reader: &Reader, settings: Settings, file: &[u8], refusal:
     assert_eq!((reader.join)(settings, file, file, &mut out), Answer::refused(refusal));
     assert_eq!((reader.pair_place)(settings, file, file, 0), Answer::refused(refusal));
     assert_eq!((reader.pair_variable)(settings, file, file, 0, 0), Answer::refused(refusal));
-    assert_eq!((records, out), ([[7; 3]; 2], [0xEE; 64]));
+    assert_eq!((records, out), ([[7; 4]; 2], [0xEE; 64]));
 }
 
 /// A little-endian trace.dat header with empty sections as far as the CPU count, for a page size of 4,096.
@@ -105,9 +107,9 @@ fn heads_and_frames(reader: &Reader) {
     assert_eq!((reader.frame_count)(LITTLE, &trace(b"\n")), Count { refusal: 0, count: 0 });
     let one = trace(b"\n\x01\0\0\0\0\0");
     for (settings, tracepoint) in [(LITTLE, 1), (BIG, 256)] {
-        let mut table = [[0; 3]];
+        let mut table = [[0; 4]];
         assert_eq!((reader.frame_table)(settings, &one, &mut table), Count { refusal: 0, count: 1 });
-        assert_eq!(fields(&table[0]), Frame { tracepoint, place: 15, size: 0 });
+        assert_eq!(fields(&table[0]), Frame { tracepoint, place: 15, ..Frame::default() });
         assert_eq!((reader.frame_place)(settings, &one, 0), Place { refusal: 0, place: 15, length: 0 });
     }
     assert_eq!((reader.frame_count)(LITTLE, &one[..14]).refusal, 6);
@@ -124,9 +126,10 @@ fn blocks(reader: &Reader, settings: Settings) {
     assert_eq!((reader.registers_place)(settings, &registers, 0), Place { refusal: 0, place: 20, length: 2 });
     assert_eq!(registers[20..], [0xAA, 0xBB]);
     assert_eq!(refusal(reader, settings, b"R 2\n\n\x01\0\x02\0\0\0R\xAA"), 9);
-    let mut table = [[0; 3]];
+    let mut table = [[0; 4]];
     assert_eq!((reader.frame_table)(settings, &registers, &mut table), Count { refusal: 0, count: 1 });
-    assert_eq!(fields(&table[0]), Frame { tracepoint: 1, place: 19, size: 3 });
+    let row = Frame { tracepoint: 1, has_registers: 1, place: 19, size: 3, registers_place: 20 };
+    assert_eq!(fields(&table[0]), row);
     let block = Block { letter: b'R', place: 19, ..Block::default() };
     assert_eq!((reader.block_record)(settings, &registers, 0, 0), block);
     assert_eq!((reader.block_record)(settings, &registers, 0, 1).refusal, 12);
@@ -277,9 +280,9 @@ fn numbers_with_a_zero_byte(reader: &Reader) {
     ] {
         for (mark, marked) in [(&b""[..], 0), (b"\0\0\0\0", 1)] {
             let file = trace(&[head, mark].concat());
-            let mut table = [[0; 3]];
+            let mut table = [[0; 4]];
             assert_eq!((reader.frame_table)(settings, &file, &mut table), Count { refusal: 0, count: 1 });
-            assert_eq!(fields(&table[0]), Frame { tracepoint, place: 15, size: 0 });
+            assert_eq!(fields(&table[0]), Frame { tracepoint, place: 15, ..Frame::default() });
             assert_eq!((reader.end_mark)(settings, &file), Mark { refusal: 0, marked });
         }
     }
@@ -397,6 +400,7 @@ fn all(reader: &Reader) {
     marked_edits(reader);
     base::all(reader);
     registers::all(reader);
+    tables::all(reader);
     variables::all(reader);
     dat_headers(reader);
     dat_ranges(reader);

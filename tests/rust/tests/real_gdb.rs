@@ -5,6 +5,7 @@ use std::fs;
 use std::io::ErrorKind;
 use tufakpeni_tests::answers::SECOND;
 use tufakpeni_tests::c::{Block, Settings};
+use tufakpeni_tests::compare::tables::agrees;
 use tufakpeni_tests::compare::Comparer;
 use tufakpeni_tests::letters::Frames;
 use tufakpeni_tests::library::LIBRARY;
@@ -157,13 +158,14 @@ impl<'s> Checked<'s> {
 }
 
 impl Checked<'_> {
-    /// Holds the registers of every frame that has any to gdb's lines about them; how many have.
-    fn registers(&self, frames: usize) -> usize {
+    /// Holds the registers of every frame that has any to gdb's lines about them, and its record to them; how many have.
+    fn registers(&self, table: &[Record]) -> usize {
         let lines = self.saved.read_by_gdb("regs");
         let shown: HashMap<_, _> = lines.iter().map(|line| (between(line, "\"frame\": ", ","), line)).collect();
         let mut compared = 0;
-        for n in 0..frames {
+        for (n, record) in table.iter().enumerate() {
             let part = (self.reader.registers_place)(self.settings, &self.bytes, n);
+            assert!(agrees(&fields(record), &part), "{}: frame {n}", self.saved.name);
             // Without a register block gdb shows a program counter, which it takes from the tracepoint.
             if self.blocks(n).all(|block| block.letter != b'R') {
                 assert_eq!(part.refusal, 12, "{}: frame {n}", self.saved.name);
@@ -251,14 +253,14 @@ fn reads_as_gdb(reader: &Reader) {
     for saved in read {
         let checked = Checked::new(reader, saved);
         let lines = saved.read_by_gdb("gdb");
-        let mut table = vec![[0; 3]; lines.len()];
+        let mut table = vec![[0; 4]; lines.len()];
         let count = (reader.frame_table)(checked.settings, &checked.bytes, &mut table);
         assert_eq!((count.refusal, count.count), (0, lines.len()), "{}", saved.name);
         for (n, line) in lines.iter().enumerate() {
             checked.frame(n, &table, line);
         }
         frames += lines.len();
-        with_registers += checked.registers(lines.len());
+        with_registers += checked.registers(&table);
     }
     println!("gdb's traces: {frames} frames as gdb reads them, {with_registers} of them with registers");
     assert!(frames > 100 && with_registers > 30);

@@ -14,6 +14,8 @@ use tufakpeni_tests::second::{Refusal, MAX_LENGTH};
 mod base;
 #[path = "slips/registers.rs"]
 mod registers;
+#[path = "slips/tables.rs"]
+mod tables;
 #[path = "slips/variables.rs"]
 mod variables;
 
@@ -156,6 +158,20 @@ fn slips_about_second_registers_are_seen() {
 #[test]
 fn slips_about_variables_are_seen() {
     all_seen(&variables::SLIPS, seen_on_traces);
+}
+
+#[test]
+fn slips_about_registers_in_the_table_are_seen() {
+    for slips in [&tables::RECORD_SLIPS[..], &tables::WRITE_SLIPS] {
+        all_seen(slips, seen_on_traces);
+    }
+}
+
+/// By the reader's own answers too, with no second reader.
+#[test]
+fn records_that_are_not_the_registers_are_seen() {
+    assert!(!tables::seen_by_itself(&SECOND));
+    all_seen(&tables::RECORD_SLIPS, tables::seen_by_itself);
 }
 
 /// The layout's own words, that of a frame's blocks at most one is a register block, over frames taken apart otherwise.
@@ -342,7 +358,7 @@ fn left_field(settings: Settings, file: &[u8], n: usize, k: usize) -> Block {
 }
 
 fn records_first(settings: Settings, file: &[u8], records: &mut [Record]) -> Count {
-    let mut table = vec![[0; 3]; (SECOND.frame_count)(settings, file).count];
+    let mut table = vec![[0; 4]; (SECOND.frame_count)(settings, file).count];
     (SECOND.frame_table)(settings, file, &mut table);
     for (record, frame) in records.iter_mut().zip(table) {
         *record = frame;

@@ -22,8 +22,9 @@ fn one_block(order: Order, line: &str, size: usize) -> Vec<u8> {
 /// Whether the line says this size with these settings: a block of just so many bytes is read; none where it is refused.
 fn says(settings: Settings, line: &str, size: Option<usize>) {
     let file = one_block(settings.order, line, size.unwrap_or(0));
-    let found = Trace::open(settings, &file).map(|trace| trace.registers(0).unwrap().len());
-    assert_eq!(found, size.ok_or(Refusal::BadLine), "{line:?} with {settings:?}");
+    let found = Trace::open(settings, &file).map(|trace| (trace.register_size(), trace.registers(0).unwrap().len()));
+    let said = size.map(|size| (Some(size), size));
+    assert_eq!(found, said.ok_or(Refusal::BadLine), "{line:?} with {settings:?}");
 }
 
 #[test]
@@ -113,7 +114,7 @@ fn lines_are_read_in_the_base() {
 const MEMORY: [u8; 1422] = [b'M'; 1422];
 
 /// In base 16 the frame is one register block of 2,420 bytes; in base 10 one of 974, a variable and memory.
-fn read_by_both(order: Order) -> Vec<u8> {
+pub fn read_by_both(order: Order) -> Vec<u8> {
     let blocks = [registers(&[b'R'; 974]), variable(order, 7, -8), memory(order, 77, &MEMORY)];
     assert_eq!(blocks.concat().len(), 1 + 2420);
     trace("R 974\n", &[frame(order, 3, &[]), frame(order, 1, &blocks)])

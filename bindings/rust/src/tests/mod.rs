@@ -5,4 +5,5 @@ mod dat;
 mod edit;
 mod refusal;
 mod registers;
+mod table;
 mod trace;

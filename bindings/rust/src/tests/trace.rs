@@ -290,14 +290,23 @@ fn a_long_frame_is_read_block_by_block() {
     }
 }
 
-/// A frame's own questions ask the library in a small trace; in the file itself it gives the same answers.
+/// The bytes of the register block by the blocks of the file itself: from behind its letter to the next block, or to the end of the
+/// frame's data.
+fn registers_in_file(settings: Settings, file: &[u8], n: usize, end: usize) -> Option<&[u8]> {
+    let places = places_in_file(settings, file, n);
+    let k = (0..places.len()).find(|&k| raw::block_record(settings, file, n, k).unwrap().letter == b'R')?;
+    Some(&file[places[k] + 1..places.get(k + 1).copied().unwrap_or(end)])
+}
+
+/// A frame's own questions go by the table, or ask the library in a small trace; in the file itself it gives the same answers.
 pub fn answers_as_the_file(settings: Settings, file: &[u8], addresses: &[u64], variables: Range<u32>) {
     let trace = Trace::open(settings, file).unwrap();
     let part = |found: raw::Place| &file[found.place..found.place + found.length];
     for n in 0..=trace.frame_count() {
         let places: Vec<usize> = trace.blocks(n).into_iter().flatten().map(|block| block.place).collect();
         assert_eq!(places, places_in_file(settings, file, n));
-        assert_eq!(trace.registers(n), raw::registers_place(settings, file, n).map(part));
+        let end = trace.frame(n).map_or(0, |frame| frame.place() + frame.data().len());
+        assert_eq!(trace.registers(n), registers_in_file(settings, file, n, end).ok_or(Refusal::NotFound));
         for &address in addresses {
             assert_eq!(trace.memory(n, address), raw::memory_place(settings, file, n, address).map(part));
         }

@@ -4,8 +4,7 @@ use crate::question::{Side, Told};
 use crate::table::Row;
 use crate::timing::{in_turn, Times};
 use std::hint::black_box;
-use std::num::NonZeroUsize;
-use tufakpeni_tests::answers::read;
+use tufakpeni_tests::answers::{self, read};
 use tufakpeni_tests::c::{Range, Selection, Settings};
 use tufakpeni_tests::reader::{fields, Record};
 use tufakpeni_tests::second::gdb::{Frame, Row as TableRow};
@@ -188,16 +187,7 @@ impl Question {
 }
 
 fn compare_tables(work: &Work) {
-    let same = work.records.iter().zip(&work.rows).all(|(record, &TableRow { frame, registers })| {
-        let expected = tufakpeni_tests::c::Frame {
-            tracepoint: frame.tracepoint,
-            has_registers: registers.is_some().into(),
-            place: frame.data.place,
-            size: frame.data.length,
-            registers_place: registers.map_or(0, NonZeroUsize::get),
-        };
-        fields(record) == expected
-    });
+    let same = work.records.iter().zip(&work.rows).all(|(record, row)| fields(record) == answers::frame(row));
     assert!(same, "the frame tables differ");
 }
 

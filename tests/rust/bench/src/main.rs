@@ -1,10 +1,14 @@
-//! The library's speed beside that of the second reader in plain Rust, in one process and on the same bytes. Prints a table.
+//! The library's speed beside that of the second reader in plain Rust, in one process and on the same bytes, and that of the registers
+//! through the Rust wrapper. Prints a table of each.
 //!
-//!     bench [ROUNDS]
+//!     bench [ROUNDS] [registers]
+//!
+//! With `registers` only the wrapper's.
 mod dat;
 mod files;
 mod gdb;
 mod question;
+mod registers;
 mod table;
 mod timing;
 
@@ -13,13 +17,25 @@ use std::env;
 const ROUNDS: usize = 11;
 
 fn main() {
-    let rounds = match env::args().nth(1) {
-        None => ROUNDS,
-        Some(word) => word.parse().expect("ROUNDS is a number"),
-    };
+    let (mut rounds, mut all) = (ROUNDS, true);
+    for word in env::args().skip(1) {
+        match &word[..] {
+            "registers" => all = false,
+            number => rounds = number.parse().expect("ROUNDS is a number"),
+        }
+    }
+    if all {
+        readers(rounds);
+    }
+    registers::run(rounds);
+}
+
+/// The library beside plain Rust.
+fn readers(rounds: usize) {
     println!("Each time is the least of {rounds} rounds, in which the library, plain Rust and the copy run in turn; the median is that of");
     println!("the rounds' own ratios. Every buffer was written before, and every answer compared. A ratio above its goal is bold.\n");
     table::print_head();
     gdb::run(rounds);
     dat::run(rounds);
+    println!();
 }

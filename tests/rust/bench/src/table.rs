@@ -23,11 +23,11 @@ pub fn print_head() {
 
 impl Row<'_> {
     pub fn print(&self) {
-        let order = if self.big { "big" } else { "little" };
+        let order = order_name(self.big);
         let (library, plain) = (self.library.least(), self.plain.least());
         let speed = self.bytes as f64 / library / 1e9;
-        let ratio = self.marked(library / plain);
-        let median = self.marked(self.library.median_ratio(&self.plain));
+        let ratio = marked(library / plain, self.goal);
+        let median = marked(self.library.median_ratio(&self.plain), self.goal);
         let copy = self.copy.as_ref().map_or_else(String::new, |copy| format!("{:.2}", library / copy.least()));
         let (library, plain) = (library * 1e3, plain * 1e3);
         println!(
@@ -35,13 +35,21 @@ impl Row<'_> {
             self.file, self.question,
         );
     }
+}
 
-    /// A ratio, bold where it passes the goal.
-    fn marked(&self, ratio: f64) -> String {
-        if ratio > self.goal {
-            format!("**{ratio:.2}**")
-        } else {
-            format!("{ratio:.2}")
-        }
+pub fn order_name(big: bool) -> &'static str {
+    if big {
+        "big"
+    } else {
+        "little"
+    }
+}
+
+/// A ratio, bold where it passes the goal.
+pub fn marked(ratio: f64, goal: f64) -> String {
+    if ratio > goal {
+        format!("**{ratio:.2}**")
+    } else {
+        format!("{ratio:.2}")
     }
 }

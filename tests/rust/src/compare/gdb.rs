@@ -1,7 +1,8 @@
 //! The questions about a GDB trace.
 
 use super::lent::Table;
-use super::{ask, indices, Based, Comparer, Difference, Met, Registers, Variables};
+use super::tables::agrees;
+use super::{ask, indices, Based, Comparer, Difference, Met, Registers, Tables, Variables};
 use crate::answers::SECOND;
 use crate::c::{Count, Place, Settings, LINE_R};
 use crate::letters::{number_bytes, Frame, Frames};
@@ -73,14 +74,16 @@ impl Comparer<'_> {
         if mark.refusal == 0 {
             self.meet(Met::Marked(mark.marked == 1));
         }
-        for room in [0, count.count.saturating_sub(1), count.count, count.count + 2] {
-            self.table(settings, file, room)?;
-        }
+        let sound = apart.filter(|_| count.refusal == 0);
+        let table = self.tables(settings, file, count.count, sound.as_ref())?;
         self.lines(settings, file)?;
-        let frames = apart.filter(|_| count.refusal == 0).map_or(Vec::new(), |apart| apart.frames);
+        let frames = sound.map_or(Vec::new(), |sound| sound.frames);
         let mut registers = None;
         for n in indices(count.count, self.most) {
             let shown = self.frame(settings, file, n, frames.get(n))?;
+            if n < count.count && !agrees(&table.row(n), &shown) {
+                return Err(Difference::new(format_args!("record and registers of frame {n}"), table.row(n), shown));
+            }
             registers = registers.or((shown.refusal == 0).then_some(shown.length));
         }
         Ok(Shown { count, registers })
@@ -100,7 +103,30 @@ impl Comparer<'_> {
         ask!(self.line_place([settings] file [usize::MAX])).map(drop)
     }
 
-    fn table(&mut self, settings: Settings, file: &[u8], room: usize) -> Result<(), Difference> {
+    /// The frame table in no records, in one too few, in just enough and in more; the answer is the last, as the reader wrote it.
+    fn tables(
+        &mut self,
+        settings: Settings,
+        file: &[u8],
+        count: usize,
+        sound: Option<&Frames>,
+    ) -> Result<Table, Difference> {
+        let shown = sound.map_or(Vec::new(), Tables::of_trace);
+        shown.into_iter().for_each(|shown| self.meet(Met::tables(shown, settings)));
+        let has_registers = sound.is_some_and(|sound| sound.frames.iter().any(Frame::has_registers));
+        for room in [0, count.saturating_sub(1), count] {
+            self.table(settings, file, room, has_registers)?;
+        }
+        self.table(settings, file, count + 2, has_registers)
+    }
+
+    fn table(
+        &mut self,
+        settings: Settings,
+        file: &[u8],
+        room: usize,
+        has_registers: bool,
+    ) -> Result<Table, Difference> {
         let (mut given, mut second) = (Table::new(room), Table::new(room));
         let call = format_args!("frame_table({settings:?}, {room} records)");
         let answer = self.same(
@@ -108,7 +134,10 @@ impl Comparer<'_> {
             (self.reader.frame_table)(settings, file, given.lent()),
             (SECOND.frame_table)(settings, file, second.lent()),
         )?;
-        given.same(call, &second, answer.count)
+        given.same(call, &second, answer.count)?;
+        let shown = Tables::of_answer(answer, room).filter(|_| has_registers);
+        shown.into_iter().for_each(|shown| self.meet(Met::tables(shown, settings)));
+        Ok(given)
     }
 
     /// Every question about frame n, which is taken apart too where it is there; the answer is where its registers are.

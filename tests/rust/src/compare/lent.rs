@@ -1,6 +1,7 @@
 //! Outputs as they are lent: filled with a pattern, and with guards around them.
 
 use super::Difference;
+use crate::c::Frame;
 use crate::reader::{fields, Record};
 use std::fmt::Display;
 
@@ -50,6 +51,11 @@ impl Table {
     pub fn lent(&mut self) -> &mut [Record] {
         let end = self.records.len() - GUARD;
         &mut self.records[GUARD..end]
+    }
+
+    /// The record of frame n.
+    pub fn row(&self, n: usize) -> Frame {
+        fields(&self.records[GUARD + n])
     }
 
     /// The fields of the first `written` records, and every byte of the others, guards among them.

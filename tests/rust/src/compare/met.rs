@@ -1,6 +1,6 @@
 //! What the comparison of a file meets.
 
-use super::{Registers, Variables};
+use super::{Registers, Tables, Variables};
 use crate::c::Settings;
 use crate::second::Refusal;
 
@@ -25,6 +25,11 @@ pub enum Met {
     /// What a frame shows of a variable that is asked for, in one byte order.
     Variables {
         shown: Variables,
+        big: bool,
+    },
+    /// What a frame table shows of register blocks, in one byte order.
+    Tables {
+        shown: Tables,
         big: bool,
     },
 }
@@ -92,10 +97,12 @@ impl Based {
 
 impl Met {
     /// How many there are.
-    pub const COUNT: usize = Met::REGISTERS + 4 * Registers::ALL.len() + 2 * Variables::ALL.len();
+    pub const COUNT: usize = Met::TABLES + 2 * Tables::ALL.len();
 
-    /// The first number of those about register blocks.
+    /// The first number of those about register blocks, about variables, about frame tables.
     const REGISTERS: usize = Refusal::LAST as usize + 6 + Based::ALL.len();
+    const VARIABLES: usize = Met::REGISTERS + 4 * Registers::ALL.len();
+    const TABLES: usize = Met::VARIABLES + 2 * Variables::ALL.len();
 
     /// A number of its own below the count.
     pub fn index(self) -> usize {
@@ -108,9 +115,8 @@ impl Met {
             Met::Registers { shown, big, ten } => {
                 Met::REGISTERS + 4 * shown as usize + 2 * usize::from(big) + usize::from(ten)
             }
-            Met::Variables { shown, big } => {
-                Met::REGISTERS + 4 * Registers::ALL.len() + 2 * shown as usize + usize::from(big)
-            }
+            Met::Variables { shown, big } => Met::VARIABLES + 2 * shown as usize + usize::from(big),
+            Met::Tables { shown, big } => Met::TABLES + 2 * shown as usize + usize::from(big),
         }
     }
 
@@ -122,11 +128,16 @@ impl Met {
         Met::Variables { shown, big: settings.order == 1 }
     }
 
+    pub fn tables(shown: Tables, settings: Settings) -> Self {
+        Met::Tables { shown, big: settings.order == 1 }
+    }
+
     pub fn all() -> impl Iterator<Item = Met> {
         let refusals = (1..=Refusal::LAST).map(Met::Refusal);
         let marks = [false, true].map(Met::Marked);
         let bases = Based::ALL.map(Met::Based);
-        refusals.chain(marks).chain(Met::joins()).chain(bases).chain(Met::all_registers()).chain(Met::all_variables())
+        let blocks = Met::all_registers().chain(Met::all_variables()).chain(Met::all_tables());
+        refusals.chain(marks).chain(Met::joins()).chain(bases).chain(blocks)
     }
 
     /// Joins of all four markings.
@@ -145,5 +156,10 @@ impl Met {
     /// All that is shown of variables, in both byte orders.
     pub fn all_variables() -> impl Iterator<Item = Met> {
         Variables::ALL.into_iter().flat_map(|shown| [false, true].map(|big| Met::Variables { shown, big }))
+    }
+
+    /// All that is shown of frame tables, in both byte orders.
+    pub fn all_tables() -> impl Iterator<Item = Met> {
+        Tables::ALL.into_iter().flat_map(|shown| [false, true].map(|big| Met::Tables { shown, big }))
     }
 }

@@ -6,10 +6,12 @@ mod gdb;
 mod lent;
 mod met;
 mod registers;
+pub mod tables;
 mod variables;
 
 pub use met::{Based, Met};
 pub use registers::Registers;
+pub use tables::Tables;
 pub use variables::Variables;
 
 use crate::answers::Answer;

@@ -9,7 +9,7 @@ use crate::c::Settings;
 use crate::second::Refusal;
 use std::ops::Range;
 
-pub const EDGES: [Edge; 17] = [
+pub const EDGES: [Edge; 18] = [
     side_by_side,
     with_blocks_between,
     three_or_more,
@@ -25,6 +25,7 @@ pub const EDGES: [Edge; 17] = [
     one_in_each_frame,
     bytes_like_letters,
     border,
+    at_file_end,
     // Twice, since each file of it is telling in one base only.
     second_in_one_base,
     second_in_one_base,
@@ -238,4 +239,15 @@ fn border(random: &mut Random, settings: Settings) -> Made {
     behind.tracepoint = random.pick(&[1, 0x5252, 0x0152, 0x5201]);
     trace.frames.extend([first, behind]);
     Made::new("border", trace.bytes(), ACCEPTED)
+}
+
+/// A register block behind which the file ends, mostly one of no bytes: its place is then the file's length.
+fn at_file_end(random: &mut Random, settings: Settings) -> Made {
+    let size = random.pick(&[0, 0, 0, 1, 8]);
+    let mut trace = Trace::with(random, settings, Some(size));
+    let mut last = Frame::of(others(random, settings.order, 0..3));
+    last.blocks.push(registers(random, size));
+    trace.frames.push(last);
+    trace.marked = false;
+    Made::new("registers at the file's end", trace.bytes(), ACCEPTED)
 }
