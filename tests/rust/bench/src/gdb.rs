@@ -89,6 +89,11 @@ fn last_memory(side: Side, work: &mut Work) -> Told {
     (answer.refusal, answer.place, answer.length)
 }
 
+fn last_registers(side: Side, work: &mut Work) -> Told {
+    let answer = (side.reader().registers_place)(work.settings, black_box(&work.file), work.last());
+    (answer.refusal, answer.place, answer.length)
+}
+
 /// A variable that the frame has in its first block too, where it has several.
 fn last_variable(side: Side, work: &mut Work) -> Told {
     let answer = (side.reader().variable)(work.settings, black_box(&work.file), work.last(), 1);
@@ -140,12 +145,13 @@ struct Question {
     copy: Option<fn(&mut Work, usize)>,
 }
 
-const QUESTIONS: [Question; 9] = [
+const QUESTIONS: [Question; 10] = [
     Question { name: "number of frames", ask: frame_count, copy: None },
     Question { name: "end mark", ask: end_mark, copy: None },
     Question { name: "frame table", ask: frame_table, copy: None },
     Question { name: "last frame", ask: last_frame, copy: None },
     Question { name: "memory in the last frame", ask: last_memory, copy: None },
+    Question { name: "registers of the last frame", ask: last_registers, copy: None },
     Question { name: "variable in the last frame", ask: last_variable, copy: None },
     Question { name: "cut, half kept", ask: cut, copy: Some(copy_of_cut) },
     Question { name: "the same, output just fits", ask: cut_that_just_fits, copy: Some(copy_of_cut) },
