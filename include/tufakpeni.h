@@ -104,8 +104,9 @@ typedef struct {
 } tfk_line;
 
 /* A frame's tracepoint number, and the place and size of its data. `has_registers` is 1 where it has an R block and 0 where it has none;
- * `registers_place` is the place of that block's bytes, behind its letter, and 0 where there is none. Where it is 1, tfk_registers_place answers
- * that place for the frame, and where it is 0, it refuses with 12. There are as many bytes as the R line says, maybe none. */
+ * `registers_place` is the place of that block's bytes, behind its letter, and 0 where there is none. Where `has_registers` is 1,
+ * tfk_registers_place answers that place for the frame; where it is 0, that call refuses with 12. There are as many bytes as the R line says,
+ * maybe none. */
 typedef struct {
     uint16_t tracepoint;
     uint8_t has_registers;

@@ -101,6 +101,12 @@ class RegisterSizes(Case):
             trace = Trace(LITTLE.trace(['tp T1', 'R308'], LITTLE.frame(1, LITTLE.variable(1, 2))), base=base)
             self.assertEqual((trace.register_size, trace.register_line, trace.base), (None, None, base))
 
+    def test_the_size_is_the_line_s(self):
+        trace = Trace(LITTLE.trace(['R 2'], LITTLE.frame(1, LITTLE.registers(b'ab'))))
+        with self.assertRaises(AttributeError):
+            trace.register_size = 1
+        self.assertEqual((trace.register_size, bytes(trace.frame(0).registers)), (2, b'ab'))
+
     def test_a_base_of_another_type_of_integer(self):
         class Ten:
             def __index__(self):

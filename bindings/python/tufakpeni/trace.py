@@ -195,9 +195,14 @@ class Trace(Holder):
         """The R line; None where there is none."""
         return next((line for line in self._lines() if line.kind == 'R'), None)
 
-    @functools.cached_property
+    @property
     def register_size(self):
         """How many bytes a register block has by the R line; None where there is no such line."""
+        return self._register_size
+
+    @functools.cached_property
+    def _register_size(self):
+        """The same, looked for once: every frame's registers go by it."""
         line = self.register_line
         # The library has let the line through, so nothing but digits of the base stands behind its word.
         return None if line is None else int(bytes(line.data[len('R '):]), self.base)

@@ -21,12 +21,13 @@ use Rattle.gdb_format.specs.Layout.{BlockFits, FrameFits}
 use Rattle.gdb_format.specs.Decode.{read}
 use Rattle.gdb_format.specs.declared.Settings.{Settings}
 use Rattle.gdb_format.specs.declared.Format.{Format}
-use Rattle.gdb_data.specs.Blocks.{Carried, carriedBy}
+use Rattle.gdb_data.specs.Blocks as carried
+use Rattle.gdb_data.specs.Blocks.{Carried, carriedBy, blockSeen}
 use Rattle.gdb_frames.specs.Places.{framesAt, blocksAt}
 use Rattle.gdb_frames.specs.Questions.{asked, Handed}
 use Rattle.gdb_frames.specs.File.{file-of}
 use Rattle.gdb_frames.specs.PlaceLaws.{placed-there, placed-is, data-behind}
-use Rattle.gdb_blocks.specs.Search.{registersIn, memoryIn, blockAt, registersAt, memoryAt, variableAt}
+use Rattle.gdb_blocks.specs.Search.{registersIn, memoryIn, nthSeen, blockAt, registersAt, memoryAt, variableAt}
 use Rattle.gdb_blocks.specs.Earliest.{earliest, Earliest, earliest-is, earliest-none, earliest-nth}
 use Rattle.gdb_blocks.specs.Latest.{latest, latest-none}
 use Rattle.gdb_blocks.specs.Held.{registersOf, memoryOf, valueOf, heldIn, Missing, blockHeld, mapped, named, withLength, orEmpty}
@@ -193,3 +194,26 @@ block-stands s b n k p c h e =
           registers-behind = λ d e. registers-there f b p d (q .0) (w ∙ ap (λ x. putBlock f x ++ q .0) e);
           memory-behind = λ a d e. memory-there f b p a d (q .0) (w ∙ ap (λ x. putBlock f x ++ q .0) e);
         }
+
+-- ---- registers stand right behind the letter of their block, also where they are no bytes
+
+-- where the registers question answers (p, k), block j of frame n is a register block, and its letter stands right before p
+pub letter-before : (s : Settings) (b : List ℕ) (n p k : ℕ) → asked s b (registersAt n) ≡ accepted (p, k)
+    → (j : ℕ) × (m : ℕ) × (asked s b (blockAt n j) ≡ accepted (m, carried.registers)) × (p ≡ m + 1)
+letter-before s b n p k e =
+    let u = next-inv (read s b) (λ r. registersAt n (r .0) (r .1)) e in
+    let f = u .0 .0 in
+    let v = next-inv (nth (framesAt f (u .0 .1)) n) (λ r. earliest registersIn (blocksAt f (r .0) (r .1))) (u .2) in
+    let bs = blocksAt f (v .0 .0) (v .0 .1) in
+    let q = (earliest-is registersIn bs (p, k)) .0 (v .2) in
+    let j = length (q .before) in
+    let w = letter (q .element .0) (q .element .1) (q .finds) in
+    let there : asked s b (blockAt n j) ≡ accepted (q .element .0, carried.registers) =
+    ap (λ y. next y (λ r. blockAt n j (r .0) (r .1))) (u .1) ∙ ap (λ y. next y (λ r. nthSeen j (blocksAt f (r .0) (r .1)))) (v .1)
+    ∙ ap (λ y. next y (λ r. accepted (blockSeen (r .0) (r .1)))) (earliest-nth registersIn bs (p, k) q) ∙ ap (λ c. accepted (q .element .0, c)) (w .0) in
+    (j, q .element .0, there, w .1)
+  where
+    letter : (m : ℕ) (x : Block) → registersIn (m, x) ≡ some (p, k) → (carriedBy x ≡ carried.registers) × (p ≡ m + 1)
+    letter m (registers d) e = let i : _≡_ {A = ℕ × ℕ} (m + 1, length d) (p, k) = cc in (refl, sym (ap (λ r. r .0) i))
+    letter m (memory a d) e = clash (cc)
+    letter m (variable l z) e = clash (cc)

@@ -1,4 +1,4 @@
--- The rows that a walk over heads meets. Over an accepted file they are the frame table.
+-- The rows that a walk over heads meets. Over an accepted file they are what its frames show.
 -- Assumes nothing.
 use mathlib.Core.Path.{_≡_, refl, ap}
 use mathlib.Core.Option.{Option, none, some}

@@ -74,7 +74,7 @@ module _ (f : Format) (z : RegisterSize) (b : List ℕ) (t : Trace) (i : File f 
       records-rows manner b (length (t .frames)) (length (opening (t .lines))) (ap length e ∙ table-long f t) ∙ ap (map (recordIn manner b)) e ∙ made-of
 
 -- a record for each frame
-records-length : (f : Format) (t : Trace) → length (map (recordAt f) (framesAt f t)) ≡ length (t .frames)
+pub records-length : (f : Format) (t : Trace) → length (map (recordAt f) (framesAt f t)) ≡ length (t .frames)
 records-length f t = length-map (framesAt f t) (recordAt f) ∙ sym (length-map (framesAt f t) (λ r. frameSeen f (r .0) (r .1))) ∙ table-long f t
 
 -- ---- plans

@@ -35,11 +35,6 @@ use Rattle.gdb_table.specs.Records.{yesIn, placeIn, recordOf, frameTable
 abbrev pub toldOf : Answer (ℕ × ℕ) → Told
 toldOf x = record { yes = yesIn x; place = placeIn x }
 
--- a record of what a frame shows and of what is told of its registers
-abbrev pub recordWith : Row → Told → FrameRecord
-recordWith v z =
-    record { tracepoint = v .tracepoint; «has_registers» = z .yes; place = v .place; size = v .size; «registers_place» = z .place }
-
 -- a frame's record, and the place after the frame
 abbrev pub stepOn : FrameRecord → ℕ → Step
 stepOn v m = record { found = v; next = m }

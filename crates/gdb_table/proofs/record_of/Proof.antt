@@ -1,10 +1,16 @@
 -- `gdb_table::record_of` meets its contract, field by field. Assumes nothing.
 use mathlib.Core.Path.{ap}
-use Rattle.gdb_read.specs.Steps.{headMeaning}
-use Rattle.gdb_table.specs.Walk.{recordWith}
+use Rattle.gdb_read.specs.Steps.{Row, headMeaning}
+use Rattle.gdb_table.specs.declared.FrameRecord.{FrameRecord}
+use Rattle.gdb_table.specs.declared.Told.{Told}
 use borrow.Author.Needs.{needs}
 use Rattle.gdb_table.proofs.record_of.Statement.{statement}
 use Rattle.gdb_table.proofs.record_of.Tie as tie
+
+-- a record of what a frame shows and of what is told of its registers
+abbrev recordWith : Row → Told → FrameRecord
+recordWith v z =
+    record { tracepoint = v .tracepoint; «has_registers» = z .yes; place = v .place; size = v .size; «registers_place» = z .place }
 
 returns : tie.Need-returns
 returns c = ap (recordWith (headMeaning (c .before .args .head))) (c .told-of .ensures)

@@ -4,7 +4,7 @@ use Rattle.gdb_table.proofs.told_of.Statement.{statement}
 use Rattle.gdb_table.proofs.told_of.Tie as tie
 
 returns : tie.Need-returns
-returns c = rw (c .before .registers .given .1)
+returns c = let found : tie.After-registers = search in rw (found .registers .given .1)
 
 returns-2 : tie.Need-returns-2
 returns-2 c = rw (c .enum-told .given .1)
