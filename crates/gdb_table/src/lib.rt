@@ -84,7 +84,8 @@ struct Manner {
     size: RegisterSize,
 }
 
-// The registers of a frame. Without an R line there are none, and its blocks are not looked at.
+// The registers of a frame. Without an R line there are none, and its blocks are not looked at. The size is made anew, since handed on as it is it would be
+// copied for each frame in two pieces (docs/PERFORMANCE.md).
 fn registers_of(manner: Manner, file: &[u8], head: FrameHead) -> PlaceAnswer
     ensures { λ r. ⌜ placeMeaning r ≡ registersShown manner (now (file .entry)) (headMeaning head) ⌝ }
 {

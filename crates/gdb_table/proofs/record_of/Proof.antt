@@ -13,7 +13,10 @@ recordWith v z =
     record { tracepoint = v .tracepoint; «has_registers» = z .yes; place = v .place; size = v .size; «registers_place» = z .place }
 
 returns : tie.Need-returns
-returns c = ap (recordWith (headMeaning (c .before .args .head))) (c .told-of .ensures)
+returns c =
+    let start : tie.Start = search in
+    let registers : tie.After-told-of = search in
+    ap (recordWith (headMeaning (start .args .head))) (registers .told-of .ensures)
 
 pub record-of-spec : {M : Type 1} → statement M
 record-of-spec =
