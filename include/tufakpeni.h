@@ -21,7 +21,7 @@ extern "C" {
 #endif
 
 /* The number of this interface. It changes with every struct, call and number of this header. */
-#define TFK_INTERFACE 5
+#define TFK_INTERFACE 6
 
 /* The number of the library's interface. */
 uint64_t tfk_interface(void);
@@ -92,6 +92,14 @@ typedef struct {
     size_t length;
 } tfk_place;
 
+/* The data of a frame that was asked for by its number: `length` bytes from `place` on. `heads` is the number of frame heads that were read for it. */
+typedef struct {
+    uint8_t refusal;
+    size_t place;
+    size_t length;
+    size_t heads;
+} tfk_frame_part;
+
 /* The kinds of a line of the description. */
 enum { TFK_LINE_OTHER = 0, TFK_LINE_R = 1, TFK_LINE_STATUS = 2, TFK_LINE_TP = 3, TFK_LINE_TSV = 4, TFK_LINE_TDESC = 5 };
 
@@ -145,8 +153,11 @@ tfk_count tfk_frame_table(tfk_settings settings, const uint8_t *file, size_t fil
 /* Line j of the description; the closing empty line is not counted. */
 tfk_line tfk_line_place(tfk_settings settings, const uint8_t *file, size_t file_length, size_t j);
 
-/* The data of frame n. */
-tfk_place tfk_frame_place(tfk_settings settings, const uint8_t *file, size_t file_length, size_t n);
+/* The data of frame n. Of the file only these parts are read: the opening, the heads of frames 0 to n (or up to six bytes where one should start) and the
+ * blocks of frame n. So the call costs what these parts cost, and it answers also where the file is at fault elsewhere; every other call reads the whole file.
+ * `heads` is n + 1. Refusals, in file order: 2, 1, 3 to 5 in the opening; 18, 6 and 7 in a head from 0 to n; 12 where the file's end or the end mark comes
+ * first; 8, 24, 10 and 9 in the blocks of frame n. */
+tfk_frame_part tfk_frame_place(tfk_settings settings, const uint8_t *file, size_t file_length, size_t n);
 
 /* Block k of frame n. */
 tfk_block tfk_block_record(tfk_settings settings, const uint8_t *file, size_t file_length, size_t n, size_t k);

@@ -14,7 +14,7 @@ VARIABLE = 'TUFAKPENI_LIBRARY'
 NAME = 'libtufakpeni.so'
 
 # The number of the interface that is declared here, as include/tufakpeni.h had it.
-INTERFACE = 5
+INTERFACE = 6
 
 MAKE = f"""Make it in the repository's root by
     rt staticlib trace_c
@@ -41,6 +41,7 @@ Settings = struct('Settings', order=c_uint8, base=c_uint8)
 Count = struct('Count', refusal=c_uint8, count=c_size_t)
 Mark = struct('Mark', refusal=c_uint8, marked=c_uint8)
 Place = struct('Place', refusal=c_uint8, place=c_size_t, length=c_size_t)
+FramePart = struct('FramePart', refusal=c_uint8, place=c_size_t, length=c_size_t, heads=c_size_t)
 Line = struct('Line', refusal=c_uint8, kind=c_uint8, place=c_size_t, length=c_size_t)
 FrameRecord = struct('FrameRecord', tracepoint=c_uint16, has_registers=c_uint8, place=c_size_t, size=c_size_t,
                      registers_place=c_size_t)
@@ -71,7 +72,7 @@ CALLS = {
     'tfk_end_mark': (Mark, *TRACE),
     'tfk_frame_table': (Count, *TRACE, *BYTES),
     'tfk_line_place': (Line, *TRACE, c_size_t),
-    'tfk_frame_place': (Place, *TRACE, c_size_t),
+    'tfk_frame_place': (FramePart, *TRACE, c_size_t),
     'tfk_block_record': (Block, *TRACE, c_size_t, c_size_t),
     'tfk_registers_place': (Place, *TRACE, c_size_t),
     'tfk_memory_place': (Place, *TRACE, c_size_t, c_uint64),

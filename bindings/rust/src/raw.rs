@@ -32,6 +32,14 @@ pub struct Place {
 }
 
 #[repr(C)]
+pub struct FramePart {
+    refusal: u8,
+    pub place: usize,
+    pub length: usize,
+    pub heads: usize,
+}
+
+#[repr(C)]
 pub struct Line {
     refusal: u8,
     pub kind: u8,
@@ -132,7 +140,7 @@ pub struct CpuRange {
 }
 
 /// The number of the interface that is declared here, as include/tufakpeni.h had it.
-const INTERFACE: u64 = 5;
+const INTERFACE: u64 = 6;
 
 extern "C" {
     fn tfk_interface() -> u64;
@@ -177,6 +185,7 @@ calls! {
         out_length: usize,
     ) -> Count;
     fn tfk_line_place(settings: Settings, file: *const u8, file_length: usize, j: usize) -> Line;
+    fn tfk_frame_place(settings: Settings, file: *const u8, file_length: usize, n: usize) -> FramePart;
     fn tfk_block_record(settings: Settings, file: *const u8, file_length: usize, n: usize, k: usize) -> Block;
     fn tfk_memory_place(settings: Settings, file: *const u8, file_length: usize, n: usize, address: u64) -> Place;
     fn tfk_variable(settings: Settings, file: *const u8, file_length: usize, n: usize, number: u32) -> Value;
@@ -241,7 +250,7 @@ macro_rules! answers {
     };
 }
 
-answers!(Count, Mark, Place, Line, Block, Value, Length, PairPart, DatSummary, CpuRange);
+answers!(Count, Mark, Place, FramePart, Line, Block, Value, Length, PairPart, DatSummary, CpuRange);
 
 impl From<crate::Settings> for Settings {
     fn from(given: crate::Settings) -> Settings {
@@ -263,6 +272,10 @@ pub fn frame_table(settings: crate::Settings, file: &[u8], out: &mut [Frame]) ->
 
 pub fn line_place(settings: crate::Settings, file: &[u8], j: usize) -> Result<Line, Refusal> {
     unsafe { tfk_line_place(settings.into(), file.as_ptr(), file.len(), j) }.answered()
+}
+
+pub fn frame_place(settings: crate::Settings, file: &[u8], n: usize) -> Result<FramePart, Refusal> {
+    unsafe { tfk_frame_place(settings.into(), file.as_ptr(), file.len(), n) }.answered()
 }
 
 pub fn block_record(settings: crate::Settings, file: &[u8], n: usize, k: usize) -> Result<Block, Refusal> {

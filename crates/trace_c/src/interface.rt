@@ -6,5 +6,5 @@ ghost use Rattle.trace_c.specs.Interface.{interface};
 pub extern "C" fn tfk_interface() -> u64
     ensures { λ r. ⌜ r ≡ interface ⌝ }
 {
-    5
+    6
 }

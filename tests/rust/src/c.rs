@@ -1,7 +1,7 @@
 //! The C interface, as `include/tufakpeni.h` declares it.
 
 /// The number of the interface.
-pub const INTERFACE: u64 = 5;
+pub const INTERFACE: u64 = 6;
 
 pub const LINE_OTHER: u8 = 0;
 pub const LINE_R: u8 = 1;
@@ -40,6 +40,15 @@ pub struct Place {
     pub refusal: u8,
     pub place: usize,
     pub length: usize,
+}
+
+#[derive(Clone, Copy, Debug, Default, PartialEq, Eq)]
+#[repr(C)]
+pub struct FramePart {
+    pub refusal: u8,
+    pub place: usize,
+    pub length: usize,
+    pub heads: usize,
 }
 
 #[derive(Clone, Copy, Debug, Default, PartialEq, Eq)]
@@ -161,7 +170,7 @@ extern "C" {
         out_length: usize,
     ) -> Count;
     pub fn tfk_line_place(settings: Settings, file: *const u8, file_length: usize, j: usize) -> Line;
-    pub fn tfk_frame_place(settings: Settings, file: *const u8, file_length: usize, n: usize) -> Place;
+    pub fn tfk_frame_place(settings: Settings, file: *const u8, file_length: usize, n: usize) -> FramePart;
     pub fn tfk_block_record(settings: Settings, file: *const u8, file_length: usize, n: usize, k: usize) -> Block;
     pub fn tfk_registers_place(settings: Settings, file: *const u8, file_length: usize, n: usize) -> Place;
     pub fn tfk_memory_place(settings: Settings, file: *const u8, file_length: usize, n: usize, address: u64) -> Place;
