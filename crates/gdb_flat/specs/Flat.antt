@@ -16,6 +16,7 @@ use Rattle.gdb_pair.specs.Pair.{Side, first, second}
 use Rattle.gdb_flat.specs.declared.questions.Count.{Count}
 use Rattle.gdb_flat.specs.declared.questions.Mark.{Mark}
 use Rattle.gdb_flat.specs.declared.questions.Place.{Place}
+use Rattle.gdb_flat.specs.declared.questions.FramePart.{FramePart}
 use Rattle.gdb_flat.specs.declared.questions.Line.{Line}
 use Rattle.gdb_flat.specs.declared.questions.Block.{Block}
 use Rattle.gdb_flat.specs.declared.questions.Value.{Value}
@@ -34,6 +35,11 @@ flatMark (refused k) = record { refusal = k; marked = 0 }
 unfoldable pub flatPlace : Answer (ℕ × ℕ) → Place
 flatPlace (accepted r) = record { refusal = 0; place = r .0; length = r .1 }
 flatPlace (refused k) = record { refusal = k; place = 0; length = 0 }
+
+-- of a frame that was found: with the number of heads read
+unfoldable pub flatFrame : Answer ((ℕ × ℕ) × ℕ) → FramePart
+flatFrame (accepted r) = record { refusal = 0; place = r .0 .0; length = r .0 .1; heads = r .1 }
+flatFrame (refused k) = record { refusal = k; place = 0; length = 0; heads = 0 }
 
 -- a line's kind, as the header numbers it
 abbrev pub kindNumber : LineKind → ℕ

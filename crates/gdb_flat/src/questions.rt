@@ -3,8 +3,9 @@ ghost use mathlib.Core.Path.{_≡_};
 ghost use Rattle.gdb_data.specs.Blocks.{kindMeaning};
 ghost use Rattle.gdb_frames.specs.Questions.{countMeaning, markMeaning, placeMeaning, lineMeaning};
 ghost use Rattle.gdb_blocks.specs.Search.{blockMeaning, valueMeaning};
+ghost use Rattle.gdb_seek.specs.Found.{frameAnswerMeaning};
 ghost use Rattle.gdb_table.specs.Records.{tableMeaning};
-ghost use Rattle.gdb_flat.specs.Flat.{flatCount, flatMark, flatPlace, kindNumber, flatLine, shownBlock, flatBlock, flatValue};
+ghost use Rattle.gdb_flat.specs.Flat.{flatCount, flatMark, flatPlace, flatFrame, kindNumber, flatLine, shownBlock, flatBlock, flatValue};
 use gdb_blocks::BlockAnswer;
 use gdb_blocks::ValueAnswer;
 use gdb_data::BlockKind;
@@ -14,6 +15,7 @@ use gdb_frames::CountAnswer;
 use gdb_frames::LineAnswer;
 use gdb_frames::MarkAnswer;
 use gdb_frames::PlaceAnswer;
+use gdb_seek::FrameAnswer;
 use gdb_table::TableAnswer;
 
 #[repr(C)]
@@ -127,6 +129,37 @@ pub fn flat_place(answer: PlaceAnswer) -> Place
             refusal,
             place: 0,
             length: 0,
+        },
+    }
+}
+
+#[repr(C)]
+pub struct FramePart {
+    pub refusal: u8,
+    pub place: usize,
+    pub length: usize,
+    pub heads: usize,
+}
+
+pub fn flat_frame(answer: FrameAnswer) -> FramePart
+    ensures { λ r. ⌜ r ≡ flatFrame (frameAnswerMeaning answer) ⌝ }
+{
+    match answer {
+        FrameAnswer::At {
+            place,
+            length,
+            heads,
+        } => FramePart {
+            refusal: 0,
+            place,
+            length,
+            heads,
+        },
+        FrameAnswer::Refused(refusal) => FramePart {
+            refusal,
+            place: 0,
+            length: 0,
+            heads: 0,
         },
     }
 }

@@ -21,7 +21,7 @@ use Rattle.gdb_format.specs.declared.Settings.{Settings}
 use Rattle.gdb_format.specs.declared.Format.{Format}
 use Rattle.gdb_read.specs.Steps.{Row, headSeen, frameSeen, headMeaning, framesEnd, Summary}
 use Rattle.gdb_frames.specs.Places.{linesAt, framesAt, partNamed}
-use Rattle.gdb_frames.specs.Questions.{asked, frameRow, dataIn, frameData, lineAt, linePlace}
+use Rattle.gdb_frames.specs.Questions.{asked, frameRow, lineAt, linePlace}
 use Rattle.gdb_frames.specs.Nth.{nthHead, shownNth, nth-placed, foundBy, nth-found, nthLine, IsLine, nth-line}
 use Rattle.gdb_frames.specs.declared.LocatedAnswer.{LocatedAnswer}
 use Rattle.gdb_frames.specs.declared.LocatedAnswer.the-variants as located
@@ -73,19 +73,6 @@ located-is {s} {b} {m} w n {x} =
     ap (λ y. next y (foundBy (rowIn f t))) (e ∙ head-front f b t n i) ∙ nth-found (frameSeen f) (putFrame f) (rowIn f t) (framesAt f t) n
     ∙ sym (next-assoc (nth (framesAt f t) n) (λ r. accepted (frameSeen f (r .0) (r .1))) (λ v. accepted (rowIn f t v)))
     ∙ ap (λ y. next y (λ r. frameLocated n (r .0) (r .1))) (sym r))
-
--- the data of frame n are what its row says
-frame-data-in : (x : Answer (Format × Trace)) (n : ℕ)
-    → next (next x (λ r. frameLocated n (r .0) (r .1))) (λ l. accepted (dataIn (l .1 .1))) ≡ next x (λ r. frameData n (r .0) (r .1))
-frame-data-in (refused k) n = refl
-frame-data-in (accepted r) n = by (frameRow n (r .0) (r .1))
-  where
-    by : (y : Answer Row) → next (next y (λ v. accepted (rowIn (r .0) (r .1) v))) (λ l. accepted (dataIn (l .1 .1))) ≡ next y (λ v. accepted (dataIn v))
-    by (accepted v) = refl
-    by (refused k) = refl
-
-pub frame-data-of : (s : Settings) (b : List ℕ) (n : ℕ) → next (asked s b (frameLocated n)) (λ l. accepted (dataIn (l .1 .1))) ≡ asked s b (frameData n)
-frame-data-of s b n = frame-data-in (read s b) n
 
 -- ---- line j
 

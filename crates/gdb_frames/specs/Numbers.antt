@@ -42,8 +42,5 @@ module _ (s : Settings) (b : List ℕ) where
   pub locate-numbers : (n : ℕ) → Refuses (OneOf questionNumbers) (asked s b (frameLocated n))
   locate-numbers n = asked-numbers s b _ (λ f t. refuses-next (frame-row-numbers n f t tt) (λ r. refuses-never))
 
-  pub frame-place-numbers : (n : ℕ) → Refuses (OneOf questionNumbers) (asked s b (frameData n))
-  frame-place-numbers n = asked-numbers s b _ (λ f t. frame-data-numbers n f t tt)
-
   pub line-place-numbers : (j : ℕ) → Refuses (OneOf questionNumbers) (asked s b (lineAt j))
   line-place-numbers j = asked-numbers s b _ (λ f t. refuses-next (nth-numbers (linesAt t) j tt) (λ r. refuses-never))

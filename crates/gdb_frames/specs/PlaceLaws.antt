@@ -17,9 +17,8 @@ use Rattle.gdb_format.specs.Decode.{read}
 use Rattle.gdb_format.specs.declared.Settings.{Settings}
 use Rattle.gdb_format.specs.declared.Format.{Format}
 use Rattle.gdb_format.specs.declared.LineKind.{LineKind}
-use Rattle.gdb_read.specs.Steps.{Row}
 use Rattle.gdb_frames.specs.Places.{placed, framesAt, linesAt, part, partNamed}
-use Rattle.gdb_frames.specs.Questions.{asked, frameRow, dataIn, frameData, lineAt, linePlace, Handed}
+use Rattle.gdb_frames.specs.Questions.{asked, lineAt, linePlace, Handed}
 use Rattle.gdb_frames.specs.File.{File, file-of, frames-behind, lines-behind}
 
 -- ---- an element among those laid out
@@ -55,7 +54,7 @@ placed-then put xs at n q = sym (next-assoc (nth (placed put at xs) n) (λ r. ac
 abbrev pub InFile : List ℕ → Answer (ℕ × ℕ) → Type 0
 InFile b x = (r : ℕ × ℕ) → x ≡ accepted r → r .0 + r .1 ≤ length b
 
--- such a part is handed back (headIn f r)
+-- such a part is handed back
 pub handed : (b r : List ℕ) (x : Answer (ℕ × ℕ)) → InFile b x → r ≡ partNamed b x → Handed b x r
 handed b r (refused n) i e = record { is-part = e; is-long = ap length e }
 handed b r (accepted q) i e =
@@ -91,22 +90,6 @@ pub in-file : (s : Settings) (b : List ℕ) (q : Format → Trace → Answer (�
 in-file s b q h g r e =
     let u = next-inv (read s b) (λ r. q (r .0) (r .1)) e in
     g (u .0 .0) (u .0 .1) (file-of s b (u .0 .0) (u .0 .1) h (u .1)) r (u .2)
-
-pub frame-in-file : (s : Settings) (b : List ℕ) (n : ℕ) → Bytes b → InFile b (asked s b (frameData n))
-frame-in-file s b n h =
-    in-file s b (frameData n) h (λ f t i r e.
-    let u = next-inv (frameRow n f t) (λ r. accepted (dataIn r)) e in
-    let v = next-inv (nth (framesAt f t) n) _ (u .1) in
-    let p = accepted-one (v .2) in
-    let q = accepted-one (u .2) in
-    omega (
-      arith,
-      frame-within f b t i n (v .0 .0) (v .0 .1) (v .1),
-      ap (λ (z : Row). z .place) p,
-      ap (λ (z : Row). z .size) p,
-      ap (λ (z : ℕ × ℕ). z .0) q,
-      ap (λ (z : ℕ × ℕ). z .1) q,
-    ))
 
 module _ (f : Format) (b : List ℕ) (t : Trace) (i : File f b t) (j a : ℕ) (l : List ℕ) (g : nth (linesAt t) j ≡ accepted (a, l)) where
   line-there : (rest : List ℕ) × (drop a b ≡ l ++ 0x0A ∷ rest)

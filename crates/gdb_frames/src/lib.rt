@@ -1,8 +1,8 @@
-// Questions about the lines and frames of a GDB trace. Each takes any file and any arguments, and reads the whole file first.
+// Questions about the lines and frames of a GDB trace. Each takes any file and any arguments, and reads the whole file first. (The data of frame n: gdb_seek.)
 ghost use mathlib.Core.Path.{_≡_};
 ghost use Rattle.fields.specs.Answer.{accepted};
 ghost use Rattle.gdb_frames.specs.Places.{partNamed};
-ghost use Rattle.gdb_frames.specs.Questions.{asked, frameCount, endMark, frameData, lineAt, linePlace, Handed};
+ghost use Rattle.gdb_frames.specs.Questions.{asked, frameCount, endMark, lineAt, linePlace, Handed};
 ghost use Rattle.gdb_frames.specs.Questions.{countMeaning, markMeaning, placeMeaning, lineMeaning};
 ghost use Rattle.gdb_frames.specs.Nth.{nthHead, nthLine};
 ghost use Rattle.gdb_frames.specs.Located.{locatedMeaning, frameLocated};
@@ -115,22 +115,6 @@ pub fn locate(settings: Settings, file: &[u8], n: usize) -> LocatedAnswer
     }
 }
 
-// The data of frame n.
-pub fn frame_place(settings: Settings, file: &[u8], n: usize) -> PlaceAnswer
-    ensures { λ r. ⌜ placeMeaning r ≡ asked settings (now (file .entry)) (frameData n) ⌝ }
-{
-    match locate(settings, file, n) {
-        LocatedAnswer::Refused(k) => PlaceAnswer::Refused(k),
-        LocatedAnswer::Frame(l) => {
-            let head = l.head;
-            PlaceAnswer::At {
-                place: head.place,
-                length: head.size,
-            }
-        }
-    }
-}
-
 // The bytes at a place; none where they are not all in the file.
 fn part_at(file: &[u8], place: usize, length: usize) -> &[u8]
     ensures { λ r. ⌜ now r ≡ partNamed (now (file .entry)) (accepted (place, length)) ⌝ }
@@ -153,12 +137,6 @@ pub fn part_of(file: &[u8], answer: PlaceAnswer) -> &[u8]
         PlaceAnswer::Refused(_) => &file[..0],
         PlaceAnswer::At { place, length } => part_at(file, place, length),
     }
-}
-
-pub fn frame_data(settings: Settings, file: &[u8], n: usize) -> &[u8]
-    ensures { λ r. ⌜ Handed (now (file .entry)) (asked settings (now (file .entry)) (frameData n)) (now r) ⌝ }
-{
-    part_of(file, frame_place(settings, file, n))
 }
 
 // The line that j further lines lead to from `from`: place and length, or none where the description ends first.

@@ -104,7 +104,7 @@ pub fn frame_at(format: Format, size: RegisterSize, s: &[u8], at: usize) -> Fram
 }
 
 // Whether the end mark stands at `at`: exactly four bytes to the end, all 0.
-fn mark_at(s: &[u8], at: usize) -> bool
+pub fn mark_at(s: &[u8], at: usize) -> bool
     ensures { λ r. ⌜ r ≡ sameBytes (drop at (now (s .entry))) mark ⌝ }
 {
     if s.len() < at {

@@ -9,10 +9,12 @@ use Rattle.fields.specs.Output.{answer}
 use Rattle.fields.specs.Refuses.{Refuses, OneOf, Listed, refuses-in}
 use Rattle.gdb_format.specs.Numbers.{fileNumbers}
 use Rattle.gdb_format.specs.declared.Settings.{Settings}
-use Rattle.gdb_frames.specs.Questions.{asked, frameCount, endMark, frameData, lineAt}
-use Rattle.gdb_frames.specs.Numbers.{questionNumbers, frame-count-numbers, end-mark-numbers, frame-place-numbers, line-place-numbers}
+use Rattle.gdb_frames.specs.Questions.{asked, frameCount, endMark, lineAt}
+use Rattle.gdb_frames.specs.Numbers.{questionNumbers, frame-count-numbers, end-mark-numbers, line-place-numbers}
 use Rattle.gdb_blocks.specs.Search.{blockAt, registersAt, memoryAt, variableAt}
 use Rattle.gdb_blocks.specs.Numbers.{block-record-numbers, registers-place-numbers, memory-place-numbers, variable-numbers}
+use Rattle.gdb_seek.specs.Found.{frameFound}
+use Rattle.gdb_seek.specs.Numbers.{frame-place-numbers}
 use Rattle.gdb_table.specs.Records.{frameTable}
 use Rattle.gdb_table.specs.declared.FrameRecord.{FrameRecord}
 use Rattle.gdb_table.specs.Numbers.{tableNumbers, table-numbers}
@@ -26,7 +28,7 @@ use Rattle.gdb_pair.specs.Numbers.{pairNumbers, pair-place-numbers, pair-variab
 use Rattle.dat_format.specs.Numbers.{datNumbers}
 use Rattle.tracedat.specs.Questions.{summed, cpuRange}
 use Rattle.tracedat.specs.Numbers.{rangeNumbers, summary-numbers, cpu-range-numbers}
-use Rattle.gdb_flat.specs.Flat.{flatCount, flatMark, flatPlace, flatLine, flatBlock, flatValue, flatLength, flatPair}
+use Rattle.gdb_flat.specs.Flat.{flatCount, flatMark, flatPlace, flatFrame, flatLine, flatBlock, flatValue, flatLength, flatPair}
 use Rattle.dat_flat.specs.Flat.{flatSummary, flatRange}
 
 -- a call with the answer x, which `flat` makes a struct
@@ -61,9 +63,9 @@ module _ (s : Settings) (b : List ℕ) where
   unfolding flatLine
   line-place-told j = told flatLine (λ r. r .refusal) (λ k. refl) questionNumbers _ (line-place-numbers s b j)
 
-  pub frame-place-told : (n : ℕ) → Told flatPlace (λ r. r .refusal) (asked s b (frameData n))
-  unfolding flatPlace
-  frame-place-told n = told flatPlace (λ r. r .refusal) (λ k. refl) questionNumbers _ (frame-place-numbers s b n)
+  pub frame-place-told : (n : ℕ) → Told flatFrame (λ r. r .refusal) (frameFound s b n)
+  unfolding flatFrame
+  frame-place-told n = told flatFrame (λ r. r .refusal) (λ k. refl) questionNumbers _ (frame-place-numbers s b n)
 
   pub block-record-told : (n k : ℕ) → Told flatBlock (λ r. r .refusal) (asked s b (blockAt n k))
   unfolding flatBlock

@@ -1,13 +1,15 @@
 // Questions about a GDB trace.
 ghost use mathlib.Core.Path.{_≡_};
 ghost use Rattle.gdb_format.specs.Settings.{defaultSettings};
-ghost use Rattle.gdb_frames.specs.Questions.{asked, frameCount, endMark, frameData, lineAt};
+ghost use Rattle.gdb_frames.specs.Questions.{asked, frameCount, endMark, lineAt};
 ghost use Rattle.gdb_blocks.specs.Search.{blockAt, registersAt, memoryAt, variableAt};
+ghost use Rattle.gdb_seek.specs.Found.{frameFound};
 ghost use Rattle.gdb_table.specs.Records.{frameTable};
-ghost use Rattle.gdb_flat.specs.Flat.{flatCount, flatMark, flatPlace, flatLine, flatBlock, flatValue, FlatLent};
+ghost use Rattle.gdb_flat.specs.Flat.{flatCount, flatMark, flatPlace, flatFrame, flatLine, flatBlock, flatValue, FlatLent};
 use gdb_flat::questions;
 use gdb_flat::questions::Block;
 use gdb_flat::questions::Count;
+use gdb_flat::questions::FramePart;
 use gdb_flat::questions::Line;
 use gdb_flat::questions::Mark;
 use gdb_flat::questions::Place;
@@ -52,10 +54,10 @@ pub extern "C" fn tfk_line_place(settings: Settings, file: &[u8], j: usize) -> L
 }
 
 #[no_mangle]
-pub extern "C" fn tfk_frame_place(settings: Settings, file: &[u8], n: usize) -> Place
-    ensures { λ r. ⌜ r ≡ flatPlace (asked settings (now (file .entry)) (frameData n)) ⌝ }
+pub extern "C" fn tfk_frame_place(settings: Settings, file: &[u8], n: usize) -> FramePart
+    ensures { λ r. ⌜ r ≡ flatFrame (frameFound settings (now (file .entry)) n) ⌝ }
 {
-    questions::flat_place(gdb_frames::frame_place(settings, file, n))
+    questions::flat_frame(gdb_seek::frame_place(settings, file, n))
 }
 
 #[no_mangle]

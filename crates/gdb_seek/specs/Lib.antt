@@ -1,0 +1,9 @@
+pub mod Walk
+pub mod Found
+pub mod Turns
+pub mod FoundLaws
+pub mod Numbers
+pub mod Heads
+pub mod Unread
+pub mod Stands
+pub mod Full

@@ -1,0 +1,228 @@
+-- What an answer says of a file, also of one that is not accepted; how many heads are read; and where 12 is given.
+-- Assumes nothing.
+use mathlib.Core.Path.{_≡_, refl, sym, ap, ap₂, _∙_, subst}
+use mathlib.Core.Bool.{Bool, cond}
+use mathlib.Core.Logic.{_↔_}
+use mathlib.Core.Option.{Option, none, some}
+use Prim.Native.Nat.{ℕ, zero, suc, _+_, _≤_}
+use native.Mathlib.Nat.{add-zero}
+use native.Mathlib.Numerals.{add-one}
+use native.Mathlib.Omega.{arith}
+use mathlib.Core.List.{List, [], _∷_, _++_, append-assoc, append-nil}
+use lib.ListN.{length, take, drop, length-append}
+use lib.Dec.{leb}
+use lib.Seq.{drop-drop, drop-at}
+use borrow.Author.Tests.{le-leb, leb-true}
+use Rattle.refusals.specs.Refusal.{limit, tooLong, notFound}
+use Rattle.fields.specs.Lists.{concatMap, Each, each-append, concatMap-append, part-there}
+use Rattle.fields.specs.Number.{Bytes, bytes-front, bytes-back, bytes-drop}
+use Rattle.fields.specs.Answer.{Answer, accepted, refused, next, next-inv, never, accepted-inj, accepted-one, refused-one, cond-inv}
+use Rattle.fields.specs.Refuses.{Refuses, OneOf}
+use Rattle.fields.specs.Element.{nth}
+use Rattle.gdb_format.specs.Settings.{settingsOf}
+use Rattle.gdb_format.specs.Trace.{Block, Frame, opening, headIn, putData, putFrame, putMark, dataOf}
+use Rattle.gdb_format.specs.Lines.{registerSize}
+use Rattle.gdb_format.specs.Layout.{LinesFit, FrameFits}
+use Rattle.gdb_format.specs.Decode.{blocks, frameHead, frame, openingLines}
+use Rattle.gdb_format.specs.Numbers.{settings-numbers, opening-numbers, blocks-numbers}
+use Rattle.gdb_format.specs.FrameBytes.{headBytes, head-long, head-first}
+use Rattle.gdb_format.specs.ExactFrame.{HeadFits, exact-head, exact-frame}
+use Rattle.gdb_format.specs.ExactLines.{exact-opening}
+use Rattle.gdb_format.specs.declared.Settings.{Settings}
+use Rattle.gdb_format.specs.declared.Format.{Format}
+use Rattle.gdb_read.specs.Steps.{Row, headSeen}
+use Rattle.gdb_frames.specs.Places.{placed, part}
+use Rattle.gdb_frames.specs.Questions.{dataIn}
+use Rattle.gdb_seek.specs.Walk.{Walk, headOrEnd, past, walkTo}
+use Rattle.gdb_seek.specs.Found.{judged, foundBehind, foundIn, frameFound}
+use Rattle.gdb_seek.specs.Heads.{Laid, Passed, walked-past, Short, walked-short, walk-laid}
+
+-- ---- how many heads are read
+
+-- a walk that reaches frame n has looked for n + 1 heads
+pub heads-read : (f : Format) (b : List ℕ) (n at : ℕ) (r : Row) → walkTo f b n at .reached ≡ accepted r → length (walkTo f b n at .visited) ≡ suc n
+heads-read f b zero at r e = refl
+heads-read f b (suc n) at r e = by (headOrEnd f b at) e (λ m. heads-read f b n m r)
+  where
+    by : (x : Answer (Option (Row × ℕ))) → past at (walkTo f b n) x .reached ≡ accepted r
+        → ((m : ℕ) → walkTo f b n m .reached ≡ accepted r → length (walkTo f b n m .visited) ≡ suc n)
+        → length (past at (walkTo f b n) x .visited) ≡ suc (suc n)
+    by (refused k) e g = never e
+    by (accepted none) e g = never e
+    by (accepted (some v)) e g = ap suc (g (v .1) e)
+
+-- ---- what stands in the file
+
+-- the file starts with an opening and n heads, each followed by as much data as it says; then stands frame n, whole, and behind it anything
+pub record Stands (f : Format) (b : List ℕ) (n : ℕ) : Type 0 where
+  pub lines : List (List ℕ)
+  pub earlier : List (ℕ × List ℕ)
+  pub found : Frame
+  pub rest : List ℕ
+  pub lines-fit : LinesFit f lines
+  pub earlier-fit : Each HeadFits earlier
+  pub found-fits : FrameFits f (registerSize f lines) found
+  pub so-many : length earlier ≡ n
+  pub laid-out : opening lines ++ (concatMap (putData f) earlier ++ (putFrame f found ++ rest)) ≡ b
+
+-- the place where its head starts
+abbrev pub headPlace : {f : Format} {b : List ℕ} {n : ℕ} → Stands f b n → ℕ
+headPlace {f} z = length (opening (z .lines)) + length (concatMap (putData f) (z .earlier))
+
+module _ {f : Format} {b : List ℕ} {n : ℕ} (z : Stands f b n) where
+  head-there : drop (headPlace z) b ≡ putFrame f (z .found) ++ z .rest
+  head-there =
+      let o = opening (z .lines) in
+      let hs = concatMap (putData f) (z .earlier) in
+      let w : (o ++ hs) ++ (putFrame f (z .found) ++ z .rest) ≡ b = append-assoc o hs (putFrame f (z .found) ++ z .rest) ∙ z .laid-out in
+      ap (drop (headPlace z)) (sym w) ∙ drop-at (o ++ hs) (putFrame f (z .found) ++ z .rest) (headPlace z) (length-append o hs)
+
+  -- its data stand behind its head
+  pub data-stands : part b (accepted (headPlace z + 6, length (dataOf f (z .found)))) ≡ dataOf f (z .found)
+  data-stands =
+      let h = headIn f (z .found) in
+      rw (head-long f h) at (part-there b (headPlace z) (headBytes f h) (h .1) (z .rest) (head-first f h (z .rest) ∙ sym head-there))
+
+-- what an answer says: the place and the length of its data, and the number of heads
+abbrev pub Says : Format → List ℕ → ℕ → (ℕ × ℕ) × ℕ → Type 0
+Says f b n x = (z : Stands f b n) × (x .0 ≡ (headPlace z + 6, length (dataOf f (z .found)))) × (x .1 ≡ n + 1)
+
+-- ---- a frame by its head and its blocks
+
+module _ (f : Format) (size : Option ℕ) where
+  frame-of : (h : ℕ × List ℕ) (q : List Block × List ℕ) → HeadFits h → Bytes (putData f h) → blocks f size (h .1) [] ≡ accepted q
+      → let r : Frame = record { tracepoint = h .0; blocks = q .0 } in FrameFits f size r × (headIn f r ≡ h)
+  unfolding frame
+  frame-of h q g w e =
+      let r : Frame = record { tracepoint = h .0; blocks = q .0 } in
+      let head-read : frameHead f (putData f h ++ []) ≡ accepted (h, []) = (exact-head f) .back h [] g in
+      let all-read : frame f size (putData f h ++ []) ≡ accepted (r, q .1) = rw (head-read, e) in
+      let k = (exact-frame f size) .forth (putData f h ++ []) r (q .1) (rw append-nil w) all-read in
+      let back = (exact-head f) .back (headIn f r) (q .1) (k .0 .0, k .0 .1, k .0 .3) in
+      (k .0, (accepted-inj (sym back ∙ ap (frameHead f) (k .1) ∙ head-read)) .0)
+
+  pub blocks-of : (r : Frame) → FrameFits f size r → (q : List Block × List ℕ) × (blocks f size (dataOf f r) [] ≡ accepted q)
+  unfolding frame
+  blocks-of r g =
+      let head-read = (exact-head f) .back (headIn f r) [] (g .0, g .1, g .3) in
+      let all-read : frame f size (putFrame f r ++ []) ≡ accepted (r, []) = (exact-frame f size) .back r [] g in
+      let e = rw head-read at all-read in
+      let q = next-inv (blocks f size (dataOf f r) []) _ e in
+      (q .0, q .1)
+
+-- ---- the answer
+
+module _ (f : Format) (b : List ℕ) (n : ℕ) (w : Bytes b) where
+  -- lines that open the file
+  abbrev Opens : List (List ℕ) → List ℕ → Type 0
+  Opens ls more = LinesFit f ls × (opening ls ++ more ≡ b)
+
+  opens : (ls : List (List ℕ)) (more : List ℕ) → openingLines f b ≡ accepted (ls, more) → Opens ls more
+  opens ls more e = (exact-opening f) .forth b ls more w e
+
+  behind : (ls : List (List ℕ)) (more : List ℕ) → Opens ls more → drop (length (opening ls)) b ≡ more
+  behind ls more o = ap (drop (length (opening ls))) (sym (o .1)) ∙ drop-at (opening ls) more (length (opening ls)) refl
+
+  opened : (ls : List (List ℕ)) (more : List ℕ) → LinesFit f ls → opening ls ++ more ≡ b → openingLines f b ≡ accepted (ls, more)
+  opened ls more g e = ap (openingLines f) (sym e) ∙ (exact-opening f) .back ls more g
+
+  module _ (ls : List (List ℕ)) (more : List ℕ) (o : Opens ls more) where
+    abbrev size : Option ℕ
+    size = registerSize f ls
+
+    abbrev start : ℕ
+    start = length (opening ls)
+
+    -- the data that the head shows are the head's own
+    own-data : (r : Row) (p : Passed f b w n start r) → part b (accepted (dataIn r)) ≡ p .1 .1
+    own-data r p =
+        let h = p .1 in
+        let hs = concatMap (putData f) (p .0) in
+        let at = start + length hs in
+        let there : drop at b ≡ putData f h ++ p .2 = sym (drop-drop (length hs) start b) ∙ ap (drop (length hs)) (p .5 .1) ∙ drop-at hs (putData f h ++ p .2) (length hs) refl in
+        rw (← p .6) (rw (head-long f h) at (part-there b at (headBytes f h) (h .1) (p .2) (head-first f h (p .2) ∙ sym there)))
+
+    head-bytes : (r : Row) (p : Passed f b w n start r) → Bytes (putData f (p .1))
+    head-bytes r p =
+        bytes-front (putData f (p .1)) (p .2)
+        (bytes-back (concatMap (putData f) (p .0)) (putData f (p .1) ++ p .2) (rw (p .5 .1) at (bytes-drop start b w)))
+
+    stands : (r : Row) → Passed f b w n start r → (q : List Block × List ℕ) → blocks f size (part b (accepted (dataIn r))) [] ≡ accepted q
+        → (k : ℕ) → k ≡ suc n → Says f b n (dataIn r, k)
+    stands r p q e k i =
+        let h = p .1 in
+        let g = frame-of f size h q (p .4) (head-bytes r p) (rw (own-data r p) at e) in
+        let v : Frame = record { tracepoint = h .0; blocks = q .0 } in
+        let same : putFrame f v ≡ putData f h = ap (putData f) (g .1) in
+        let z : Stands f b n = record {
+          lines = ls;
+          earlier = p .0;
+          found = v;
+          rest = p .2;
+          lines-fit = o .0;
+          earlier-fit = p .5 .0;
+          found-fits = g .0;
+          so-many = p .3;
+          laid-out = rw same (ap (λ d. opening ls ++ d) (sym (p .5 .1) ∙ behind ls more o) ∙ o .1);
+        } in
+        (z, ap dataIn (sym (p .6)) ∙ ap (λ d. (headPlace z + 6, length d)) (sym (ap (λ (x : ℕ × List ℕ). x .1) (g .1))), i ∙ sym (add-one n))
+
+  answer-says : (x : (ℕ × ℕ) × ℕ) → next (openingLines f b) (λ o. foundBehind f b n (o .0)) ≡ accepted x → Says f b n x
+  answer-says x e =
+      let q = next-inv (openingLines f b) (λ o. foundBehind f b n (o .0)) e in
+      let ls = q .0 .0 in
+      let at = length (opening ls) in
+      let u = next-inv (walkTo f b n at .reached) _ (q .2) in
+      let v = next-inv (blocks f (registerSize f ls) (part b (accepted (dataIn (u .0)))) []) _ (u .2) in
+      subst (Says f b n) (accepted-one (v .2))
+      (stands ls (q .0 .1) (opens ls (q .0 .1) (q .1)) (u .0) (walked-past f b w n at (u .0) (u .1)) (v .0) (v .1)
+      (length (walkTo f b n at .visited)) (heads-read f b n at (u .0) (u .1)))
+
+  -- the last of heads that are laid out one after another
+  last-placed : (hs : List (ℕ × List ℕ)) (h : ℕ × List ℕ) (at : ℕ)
+      → nth (placed (putData f) at (hs ++ h ∷ [])) (length hs) ≡ accepted (at + length (concatMap (putData f) hs), h)
+  last-placed [] h at = ap (λ a. accepted (a, h)) (sym (add-zero at))
+  last-placed (g ∷ hs) h at =
+      let i : at + length (putData f g) + length (concatMap (putData f) hs) ≡ at + length (concatMap (putData f) (g ∷ hs)) =
+      omega (arith, length-append (putData f g) (concatMap (putData f) hs)) in
+      last-placed hs h (at + length (putData f g)) ∙ ap (λ a. accepted (a, h)) i
+
+  -- the walk reaches the frame that stands there
+  walk-reaches : (z : Stands f b n) → walkTo f b n (length (opening (z .lines))) .reached ≡ accepted (headSeen (headPlace z) (headIn f (z .found)))
+  walk-reaches z =
+      let h = headIn f (z .found) in
+      let hs = z .earlier in
+      let g = z .found-fits in
+      let at = length (opening (z .lines)) in
+      let laid : drop at b ≡ concatMap (putData f) (hs ++ h ∷ []) ++ z .rest =
+      behind (z .lines) _ (z .lines-fit, z .laid-out)
+      ∙ sym (ap (λ d. d ++ z .rest) (concatMap-append (putData f) hs (h ∷ []) ∙ ap (λ d. concatMap (putData f) hs ++ d) (append-nil (putData f h)))
+      ∙ append-assoc (concatMap (putData f) hs) (putData f h) (z .rest)) in
+      let few : length (hs ++ h ∷ []) ≤ n → ⊥ = λ k. omega (arith, k, length-append hs (h ∷ []), z .so-many) in
+      walk-laid f b (λ h. h) n (hs ++ h ∷ []) at (z .rest) (λ k. absurd (few k))
+      (each-append HeadFits hs (h ∷ []) (z .earlier-fit) ((g .0, g .1, g .3), tt)) laid
+      ∙ ap (λ k. next (nth (placed (putData f) at (hs ++ h ∷ [])) k) (λ r. accepted (headSeen (r .0) (r .1)))) (sym (z .so-many))
+      ∙ ap (λ x. next x (λ r. accepted (headSeen (r .0) (r .1)))) (last-placed hs h at)
+
+  says-answer : (x : (ℕ × ℕ) × ℕ) → Says f b n x → next (openingLines f b) (λ o. foundBehind f b n (o .0)) ≡ accepted x
+  says-answer x y =
+      let z = y .0 in
+      let size = registerSize f (z .lines) in
+      let w = walkTo f b n (length (opening (z .lines))) in
+      let q = blocks-of f size (z .found) (z .found-fits) in
+      let count : length (w .visited) ≡ n + 1 = heads-read f b n (length (opening (z .lines))) _ (walk-reaches z) ∙ sym (add-one n) in
+      ap (λ o. next o (λ o. foundBehind f b n (o .0))) (opened (z .lines) _ (z .lines-fit) (z .laid-out))
+      ∙ rw (walk-reaches z, data-stands z, q .1) (ap₂ (λ d k. accepted (d, k)) (sym (y .1)) (count ∙ sym (y .2)))
+
+-- An answer is given exactly where the file, of which no more is said, starts with an opening and n heads, each followed by as much data as it says,
+-- and there stands frame n, whole: the answer is the place and the length of its data, and n + 1.
+pub answer-exactly : (s : Settings) (b : List ℕ) (n : ℕ) (x : (ℕ × ℕ) × ℕ) → Bytes b
+    → (frameFound s b n ≡ accepted x) ↔ ((f : Format) × (settingsOf s ≡ accepted f) × (length b ≤ limit) × Says f b n x)
+unfolding frameFound
+answer-exactly s b n x w = (
+  (λ e.
+      let q = next-inv (settingsOf s) (λ f. foundIn f b n) e in
+      let c = cond-inv (leb (length b) limit) _ tooLong (q .2) in
+      (q .0, q .1, leb-true (length b) limit (c .0), answer-says (q .0) b n w x (c .1))),
+  (λ y. rw (y .1, le-leb (length b) limit (y .2)) (says-answer (y .0) b n w x (y .3))),
+)
