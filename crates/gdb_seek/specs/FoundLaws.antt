@@ -66,11 +66,12 @@ module _ (f : Format) (b : List ℕ) (n : ℕ) where
     found-no-opening k e =
         rw (le-leb (length b) limit short, refused-inv k (openingLines f b) (λ r. (length (opening (r .0)), registerSize f (r .0))) e)
 
-    pub found-behind : (end : ℕ) (size : Option ℕ) → accepted (end, size) ≡ openingSeen f b → judged f size b (walkTo f b n end) ≡ foundIn f b n
-    found-behind end size e =
+    pub found-behind : (end : ℕ) (size : Option ℕ) → accepted (end, size) ≡ openingSeen f b → {x : Answer ((ℕ × ℕ) × ℕ)}
+        → x ≡ judged f size b (walkTo f b n end) → x ≡ foundIn f b n
+    found-behind end size e i =
         let q = next-inv (openingLines f b) (λ r. accepted (length (opening (r .0)), registerSize f (r .0))) (sym e) in
-        let i = accepted-inj (q .2) in
-        rw (le-leb (length b) limit short, q .1, i .0, i .1) refl
+        let j = accepted-inj (q .2) in
+        rw (le-leb (length b) limit short, q .1, j .0, j .1) i
 
 -- ---- under the caller's settings
 
@@ -79,9 +80,9 @@ module _ (s : Settings) (b : List ℕ) (n : ℕ) where
   unfolding frameFound
   found-no-format k e = rw (← e)
 
-  pub found-format : (f : Format) → accepted f ≡ settingsOf s → foundIn f b n ≡ frameFound s b n
+  pub found-format : (f : Format) → accepted f ≡ settingsOf s → {x : Answer ((ℕ × ℕ) × ℕ)} → x ≡ foundIn f b n → x ≡ frameFound s b n
   unfolding frameFound
-  found-format f e = rw (← e)
+  found-format f e i = rw (← e) i
 
   -- the part that is answered lies in the file
   pub found-in-file : Bytes b → InFile b (dataFound s b n)

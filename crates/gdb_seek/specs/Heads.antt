@@ -10,7 +10,7 @@ use mathlib.Core.List.{List, [], _∷_, _++_, append-assoc}
 use lib.ListN.{length, drop, length-append, length-drop, drop-of-length-le}
 use lib.Seq.{drop-drop, drop-at}
 use Rattle.refusals.specs.Refusal.{notFound}
-use Rattle.fields.specs.Lists.{concatMap, Each, clash}
+use Rattle.fields.specs.Lists.{concatMap, Each, clash, part-there}
 use Rattle.fields.specs.Number.{Bytes, bytes-drop}
 use Rattle.fields.specs.Word.{sameBytes, same-bytes}
 use Rattle.fields.specs.Answer.{Answer, accepted, refused, next, accepted-one, refused-one, never}
@@ -19,12 +19,13 @@ use Rattle.fields.specs.At.{step-read, step-end}
 use Rattle.fields.specs.Element.{nth}
 use Rattle.gdb_format.specs.Trace.{mark, putMark, putData}
 use Rattle.gdb_format.specs.Decode.{frameHead, ending}
-use Rattle.gdb_format.specs.FrameBytes.{frame-long}
+use Rattle.gdb_format.specs.FrameBytes.{headBytes, head-long, head-first, frame-long}
 use Rattle.gdb_format.specs.ExactFrame.{HeadFits, exact-head, takes-head}
 use Rattle.gdb_format.specs.declared.Format.{Format}
 use Rattle.gdb_read.specs.Steps.{Row, headSeen}
 use Rattle.gdb_frames.specs.Nth.{foundBy}
-use Rattle.gdb_frames.specs.Places.{placed}
+use Rattle.gdb_frames.specs.Places.{placed, part}
+use Rattle.gdb_frames.specs.Questions.{dataIn}
 use Rattle.gdb_seek.specs.Walk.{beforeEnd, headOrEnd, past, walkTo}
 use Rattle.gdb_seek.specs.Turns.{no-mark, head-turn, reached-here}
 use Rattle.gdb_seek.specs.Numbers.{place-numbers}
@@ -60,6 +61,10 @@ module _ (f : Format) (b : List ℕ) (at : ℕ) where
     pub rest-here : drop (at + length (putData f h)) b ≡ rest
     rest-here = sym (drop-drop (length (putData f h)) at b) ∙ ap (drop (length (putData f h))) e ∙ drop-at (putData f h) rest (length (putData f h)) refl
 
+    -- the data that it shows are its own
+    pub data-here : part b (accepted (dataIn (headSeen at h))) ≡ h .1
+    data-here = rw (head-long f h) at (part-there b at (headBytes f h) (h .1) rest (head-first f h rest ∙ sym e))
+
     no-mark-here : sameBytes (drop at b) mark ≡ false
     no-mark-here = by (sameBytes (drop at b) mark) refl
       where
@@ -69,7 +74,7 @@ module _ (f : Format) (b : List ℕ) (at : ℕ) where
 
     pub head-here : HeadFits h → headOrEnd f b at ≡ accepted (some (headSeen at h, at + length (putData f h)))
     head-here g =
-        sym (no-mark f b at no-mark-here)
+        sym (no-mark f b at no-mark-here refl)
         ∙ step-read headSeen (frameHead f) b at h (at + length (putData f h)) (omega (arith, fills, frame-long f h)) (omega (arith, fills))
         (ap (frameHead f) e ∙ (exact-head f) .back h rest g ∙ ap (λ r. accepted (h, r)) (sym rest-here))
 

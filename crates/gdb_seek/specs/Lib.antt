@@ -7,3 +7,5 @@ pub mod Heads
 pub mod Unread
 pub mod Stands
 pub mod Full
+pub mod FirstFault
+pub mod PartsFound

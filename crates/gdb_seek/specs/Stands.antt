@@ -1,7 +1,7 @@
 -- What an answer says of a file, also of one that is not accepted; how many heads are read; and where 12 is given.
 -- Assumes nothing.
 use mathlib.Core.Path.{_≡_, refl, sym, ap, ap₂, _∙_, subst}
-use mathlib.Core.Bool.{Bool, cond}
+use mathlib.Core.Bool.{Bool, true, false, cond}
 use mathlib.Core.Logic.{_↔_}
 use mathlib.Core.Option.{Option, none, some}
 use Prim.Native.Nat.{ℕ, zero, suc, _+_, _≤_}
@@ -14,9 +14,9 @@ use lib.Dec.{leb}
 use lib.Seq.{drop-drop, drop-at}
 use borrow.Author.Tests.{le-leb, leb-true}
 use Rattle.refusals.specs.Refusal.{limit, tooLong, notFound}
-use Rattle.fields.specs.Lists.{concatMap, Each, each-append, concatMap-append, part-there}
+use Rattle.fields.specs.Lists.{concatMap, Each, each-append, concatMap-append}
 use Rattle.fields.specs.Number.{Bytes, bytes-front, bytes-back, bytes-drop}
-use Rattle.fields.specs.Answer.{Answer, accepted, refused, next, next-inv, never, accepted-inj, accepted-one, refused-one, cond-inv}
+use Rattle.fields.specs.Answer.{Answer, accepted, refused, next, next-inv, refused-inv, never, accepted-inj, accepted-one, refused-one, cond-inv}
 use Rattle.fields.specs.Refuses.{Refuses, OneOf}
 use Rattle.fields.specs.Element.{nth}
 use Rattle.gdb_format.specs.Settings.{settingsOf}
@@ -25,7 +25,6 @@ use Rattle.gdb_format.specs.Lines.{registerSize}
 use Rattle.gdb_format.specs.Layout.{LinesFit, FrameFits}
 use Rattle.gdb_format.specs.Decode.{blocks, frameHead, frame, openingLines}
 use Rattle.gdb_format.specs.Numbers.{settings-numbers, opening-numbers, blocks-numbers}
-use Rattle.gdb_format.specs.FrameBytes.{headBytes, head-long, head-first}
 use Rattle.gdb_format.specs.ExactFrame.{HeadFits, exact-head, exact-frame}
 use Rattle.gdb_format.specs.ExactLines.{exact-opening}
 use Rattle.gdb_format.specs.declared.Settings.{Settings}
@@ -35,7 +34,7 @@ use Rattle.gdb_frames.specs.Places.{placed, part}
 use Rattle.gdb_frames.specs.Questions.{dataIn}
 use Rattle.gdb_seek.specs.Walk.{Walk, headOrEnd, past, walkTo}
 use Rattle.gdb_seek.specs.Found.{judged, foundBehind, foundIn, frameFound}
-use Rattle.gdb_seek.specs.Heads.{Laid, Passed, walked-past, Short, walked-short, walk-laid}
+use Rattle.gdb_seek.specs.Heads.{Laid, Passed, walked-past, Short, walked-short, walk-laid, data-here}
 
 -- ---- how many heads are read
 
@@ -79,9 +78,7 @@ module _ {f : Format} {b : List ℕ} {n : ℕ} (z : Stands f b n) where
 
   -- its data stand behind its head
   pub data-stands : part b (accepted (headPlace z + 6, length (dataOf f (z .found)))) ≡ dataOf f (z .found)
-  data-stands =
-      let h = headIn f (z .found) in
-      rw (head-long f h) at (part-there b (headPlace z) (headBytes f h) (h .1) (z .rest) (head-first f h (z .rest) ∙ sym head-there))
+  data-stands = data-here f b (headPlace z) (headIn f (z .found)) (z .rest) head-there
 
 -- what an answer says: the place and the length of its data, and the number of heads
 abbrev pub Says : Format → List ℕ → ℕ → (ℕ × ℕ) × ℕ → Type 0
@@ -140,7 +137,7 @@ module _ (f : Format) (b : List ℕ) (n : ℕ) (w : Bytes b) where
         let hs = concatMap (putData f) (p .0) in
         let at = start + length hs in
         let there : drop at b ≡ putData f h ++ p .2 = sym (drop-drop (length hs) start b) ∙ ap (drop (length hs)) (p .5 .1) ∙ drop-at hs (putData f h ++ p .2) (length hs) refl in
-        rw (← p .6) (rw (head-long f h) at (part-there b at (headBytes f h) (h .1) (p .2) (head-first f h (p .2) ∙ sym there)))
+        ap (λ r. part b (accepted (dataIn r))) (sym (p .6)) ∙ data-here f b at h (p .2) there
 
     head-bytes : (r : Row) (p : Passed f b w n start r) → Bytes (putData f (p .1))
     head-bytes r p =
@@ -226,3 +223,81 @@ answer-exactly s b n x w = (
       (q .0, q .1, leb-true (length b) limit (c .0), answer-says (q .0) b n w x (c .1))),
   (λ y. rw (y .1, le-leb (length b) limit (y .2)) (says-answer (y .0) b n w x (y .3))),
 )
+
+-- ---- 12
+
+-- the file is an opening and at most n heads, each followed by as much data as it says; then it ends, or the end mark stands
+pub record Ends (f : Format) (b : List ℕ) (n : ℕ) : Type 0 where
+  pub lines : List (List ℕ)
+  pub earlier : List (ℕ × List ℕ)
+  pub marked : Bool
+  pub lines-fit : LinesFit f lines
+  pub earlier-fit : Each HeadFits earlier
+  pub too-few : length earlier ≤ n
+  pub laid-out : opening lines ++ (concatMap (putData f) earlier ++ putMark marked) ≡ b
+
+module _ (f : Format) (b : List ℕ) (n : ℕ) (w : Bytes b) where
+  ends-of : (ls : List (List ℕ)) (more : List ℕ) → openingLines f b ≡ accepted (ls, more) → Short f b w n (length (opening ls)) → Ends f b n
+  ends-of ls more e h =
+      let o = opens f b n w ls more e in
+      record {
+        lines = ls;
+        earlier = h .0;
+        marked = h .1;
+        lines-fit = o .0;
+        earlier-fit = h .3 .0;
+        too-few = h .2;
+        laid-out = ap (λ d. opening ls ++ d) (sym (h .3 .1) ∙ behind f b n w ls more o) ∙ o .1;
+      }
+
+  -- blocks refuse with other numbers
+  behind-missing : (ls : List (List ℕ)) → foundBehind f b n ls ≡ refused notFound → walkTo f b n (length (opening ls)) .reached ≡ refused notFound
+  behind-missing ls e = by (walkTo f b n (length (opening ls)) .reached) e
+    where
+      by : (x : Answer Row) → next {B = (ℕ × ℕ) × ℕ} x (λ r. next {B = (ℕ × ℕ) × ℕ} (blocks f (registerSize f ls) (part b (accepted (dataIn r))) []) (λ q. accepted (dataIn r, length (walkTo f b n (length (opening ls)) .visited)))) ≡ refused notFound
+          → x ≡ refused notFound
+      by (refused k) e = ap refused (refused-one e)
+      by (accepted r) e =
+          let d = part b (accepted (dataIn r)) in
+          absurd (blocks-numbers f (registerSize f ls) d .reading [] .only notFound (refused-inv notFound (blocks f (registerSize f ls) d []) _ (sym e)))
+
+  missing-ends : next (openingLines f b) (λ o. foundBehind f b n (o .0)) ≡ refused notFound → Ends f b n
+  missing-ends e = by (openingLines f b) refl e
+    where
+      by : (x : Answer (List (List ℕ) × List ℕ)) → openingLines f b ≡ x → next x (λ o. foundBehind f b n (o .0)) ≡ refused notFound → Ends f b n
+      by (refused k) i e = absurd (opening-numbers f .reading b .only notFound (i ∙ ap refused (refused-one e)))
+      by (accepted o) i e = ends-of (o .0) (o .1) i (walked-short f b w n (length (opening (o .0))) (behind-missing (o .0) e))
+
+  none-placed : (hs : List (ℕ × List ℕ)) (at k : ℕ) → length hs ≤ k → nth (placed (putData f) at hs) k ≡ refused notFound
+  none-placed [] at k h = refl
+  none-placed (x ∷ hs) at zero h = absurd (omega (arith, h))
+  none-placed (x ∷ hs) at (suc k) h = none-placed hs (at + length (putData f x)) k (omega (arith, h))
+
+  ends-missing : Ends f b n → next (openingLines f b) (λ o. foundBehind f b n (o .0)) ≡ refused notFound
+  ends-missing z =
+      let at = length (opening (z .lines)) in
+      let none-there : walkTo f b n at .reached ≡ refused notFound =
+      walk-laid f b (λ h. h) n (z .earlier) at (putMark (z .marked)) (λ k. (z .marked, refl)) (z .earlier-fit)
+      (behind f b n w (z .lines) _ (z .lines-fit, z .laid-out))
+      ∙ ap (λ x. next x (λ r. accepted (headSeen (r .0) (r .1)))) (none-placed (z .earlier) at n (z .too-few)) in
+      ap (λ o. next o (λ o. foundBehind f b n (o .0))) (opened f b n w (z .lines) _ (z .lines-fit) (z .laid-out)) ∙ rw none-there
+
+-- 12 is given exactly where the file's end or the end mark comes first.
+pub missing-exactly : (s : Settings) (b : List ℕ) (n : ℕ) → Bytes b
+    → (frameFound s b n ≡ refused notFound) ↔ ((f : Format) × (settingsOf s ≡ accepted f) × (length b ≤ limit) × Ends f b n)
+unfolding frameFound
+missing-exactly s b n w = (
+  (λ e. by (settingsOf s) refl e),
+  (λ y. rw (y .1, le-leb (length b) limit (y .2)) (ends-missing (y .0) b n w (y .3))),
+)
+  where
+    short : (f : Format) (t : Bool) → leb (length b) limit ≡ t → settingsOf s ≡ accepted f
+        → cond t (next (openingLines f b) (λ o. foundBehind f b n (o .0))) (refused tooLong) ≡ refused notFound
+        → (f : Format) × (settingsOf s ≡ accepted f) × (length b ≤ limit) × Ends f b n
+    short f true i j e = (f, j, leb-true (length b) limit i, missing-ends f b n w e)
+    short f false i j e = let k : tooLong ≡ notFound = refused-one e in absurd (omega (arith, k))
+
+    by : (x : Answer Format) → settingsOf s ≡ x → next x (λ f. foundIn f b n) ≡ refused notFound
+        → (f : Format) × (settingsOf s ≡ accepted f) × (length b ≤ limit) × Ends f b n
+    by (refused k) i e = absurd (settings-numbers s .only notFound (i ∙ ap refused (refused-one e)))
+    by (accepted f) i e = short f (leb (length b) limit) refl i e

@@ -39,8 +39,8 @@ reachedMeaning (Refused n) = refused n
 
 module _ (f : Format) (b : List ℕ) (at : ℕ) where
   -- where the mark is not, the head's step tells
-  pub no-mark : sameBytes (drop at b) mark ≡ false → stepAt headSeen (frameHead f) b at ≡ headOrEnd f b at
-  no-mark e = by (drop at b) e
+  pub no-mark : sameBytes (drop at b) mark ≡ false → {x : Answer (Option (Row × ℕ))} → x ≡ stepAt headSeen (frameHead f) b at → x ≡ headOrEnd f b at
+  no-mark e i = i ∙ by (drop at b) e
     where
       by : (d : List ℕ) → sameBytes d mark ≡ false
           → let x = next (another (frameHead f) d) (λ m. accepted (shownAt headSeen at (length b) m)) in x ≡ beforeEnd (ending d) x

@@ -91,8 +91,8 @@ fn frame_behind(
                 place,
                 size: length,
             } = head;
-            let data = &file[..place + length];
-            match gdb_data::blocks_from(format, size, data, place) {
+            let end = place + length;
+            match gdb_data::blocks_from(format, size, &file[..end], place) {
                 Verdict::Refused(k) => FrameAnswer::Refused(k),
                 Verdict::Sound => FrameAnswer::At {
                     place,

@@ -47,11 +47,11 @@ judged c e =
     ap (λ x. next x (λ u. accepted (dataIn (headMeaning (c .head .given .0 .0)), c .head .given .0 .1 .0))) e
     ∙ judged-by (a .format) (sizeMeaning (a .size)) (a .file .now) (walkTo (a .format) (a .file .now) (a .n) (a .from)) (reached c) (within c)
 
-add-data : tie.Need-add-data
-add-data c = omega (arith, within (search))
+add-end : tie.Need-add-end
+add-end c = omega (arith, within (search))
 
-slice-aggregate-data : tie.Need-slice-aggregate-data
-slice-aggregate-data c = let start : tie.Start = search in sym (length-take-le _ (start .args .file .now) (within (search)))
+slice-aggregate-blocks-from : tie.Need-slice-aggregate-blocks-from
+slice-aggregate-blocks-from c = let start : tie.Start = search in sym (length-take-le _ (start .args .file .now) (within (search)))
 
 returns : tie.Need-returns
 returns c =
@@ -68,5 +68,5 @@ returns-3 c = let h : tie.After-head = search in judged h (at-case verdictMeanin
 pub frame-behind-spec : {M : Type 1} → statement M
 frame-behind-spec =
     tie.close
-    (tie.spec (λ c κs. search needs) (λ c. search needs) (λ c. search needs) add-data slice-aggregate-data (λ c κs. search needs) (λ c. search needs)
+    (tie.spec (λ c κs. search needs) (λ c. search needs) (λ c. search needs) add-end slice-aggregate-blocks-from (λ c κs. search needs) (λ c. search needs)
     (λ c. search needs) returns returns-2 returns-3)

@@ -1,9 +1,7 @@
 -- `gdb_seek::frame_in` meets its contract: the length, the opening, and what stands behind it.
 -- Assumes nothing.
-use mathlib.Core.Path.{_∙_}
-use Rattle.gdb_format.specs.Opening.{openingMeaning}
+use Rattle.gdb_format.specs.Opening.{sizeMeaning, openingMeaning}
 use Rattle.gdb_seek.specs.FoundLaws.{found-too-long, found-no-opening, found-behind}
-use Rattle.gdb_format.specs.Opening.{sizeMeaning}
 use Rattle.fields.specs.Given.{at-case}
 use borrow.Author.Needs.{needs}
 use native.Mathlib.Omega.{arith}
@@ -26,8 +24,8 @@ returns-3 c =
     let o : tie.After-end = search in
     let a = start .args in
     let g = o .end .given in
-    c .frame-behind .ensures
-    ∙ found-behind (a .format) (a .file .now) (a .n) (omega arith) (g .0 .0) (sizeMeaning (g .0 .1 .0)) (at-case openingMeaning (g .1) (search))
+    found-behind (a .format) (a .file .now) (a .n) (omega arith) (g .0 .0) (sizeMeaning (g .0 .1 .0)) (at-case openingMeaning (g .1) (search))
+    (c .frame-behind .ensures)
 
 pub frame-in-spec : {M : Type 1} → statement M
 frame-in-spec =

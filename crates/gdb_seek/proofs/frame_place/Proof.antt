@@ -1,5 +1,4 @@
 -- `gdb_seek::frame_place` meets its contract. Assumes nothing.
-use mathlib.Core.Path.{_∙_}
 use Rattle.gdb_format.specs.Settings.{formatMeaning}
 use Rattle.gdb_seek.specs.FoundLaws.{found-no-format, found-format}
 use Rattle.fields.specs.Given.{at-case}
@@ -17,9 +16,10 @@ returns c =
 returns-2 : tie.Need-returns-2
 returns-2 c =
     let start : tie.Start = search in
+    let known : tie.After-format = search in
     let a = start .args in
-    let g = c .before .before .format .given in
-    c .frame-in .ensures ∙ found-format (a .settings) (a .file .now) (a .n) (g .0 .0) (at-case formatMeaning (g .1) (search))
+    let g = known .format .given in
+    found-format (a .settings) (a .file .now) (a .n) (g .0 .0) (at-case formatMeaning (g .1) (search)) (search)
 
 pub frame-place-spec : {M : Type 1} → statement M
 frame-place-spec =

@@ -20,7 +20,7 @@ returns-2 c =
     let m : tie.After-mark-at = search in
     let no : tie.Else1 = search in
     let a = start .args in
-    c .head-at .ensures ∙ no-mark (a .format) (a .s .now) (a .at) (sym (m .mark-at .ensures) ∙ no .if1 .left)
+    no-mark (a .format) (a .s .now) (a .at) (sym (m .mark-at .ensures) ∙ no .if1 .left) (search)
 
 pub head-or-end-spec : {M : Type 1} → statement M
 head-or-end-spec = tie.close (tie.spec (λ c κs. search needs) returns (λ c κs. search needs) returns-2)

@@ -1,0 +1,166 @@
+-- Where the frames before frame n are sound, a refusal other than 12 is the whole reading's own: so a file's first fault is met in the first frame that is refused.
+-- Assumes nothing.
+use mathlib.Core.Path.{_≡_, refl, sym, ap, _∙_}
+use mathlib.Core.Bool.{Bool, true, false, cond}
+use mathlib.Core.Option.{Option, none, some}
+use Prim.Native.Nat.{ℕ, _+_, _<_, _≤_}
+use native.Mathlib.Nat.{add-zero}
+use native.Mathlib.Omega.{arith}
+use mathlib.Core.List.{List, [], _∷_, _++_, append-assoc}
+use lib.ListN.{length, drop, length-append}
+use lib.Dec.{leb}
+use lib.Seq.{drop-drop, drop-at}
+use Rattle.refusals.specs.Refusal.{limit, tooLong, notFound}
+use Rattle.fields.specs.Lists.{concatMap, Each, each-map, clash}
+use Rattle.fields.specs.Number.{Bytes}
+use Rattle.fields.specs.Word.{sameBytes}
+use Rattle.fields.specs.Answer.{Answer, accepted, refused, next, never, refused-inv, refused-one}
+use Rattle.fields.specs.Reader.{stepAt, toEndAfter}
+use Rattle.fields.specs.At.{step-refused}
+use Rattle.gdb_format.specs.Settings.{settingsOf}
+use Rattle.gdb_format.specs.Trace.{Frame, Trace, mark, opening, headIn, putFrame}
+use Rattle.gdb_format.specs.Lines.{registerSize}
+use Rattle.gdb_format.specs.Layout.{LinesFit, FrameFits}
+use Rattle.gdb_format.specs.Decode.{blockAfter, seenAfter, blocks, frameHead, frame, ending, frames, openingLines, trace, decode, read}
+use Rattle.gdb_format.specs.ExactFrame.{HeadFits, exact-head, exact-frame, takes-head, frames-more, frames-fault}
+use Rattle.gdb_format.specs.ExactLines.{exact-opening}
+use Rattle.gdb_format.specs.declared.Settings.{Settings}
+use Rattle.gdb_format.specs.declared.Format.{Format}
+use Rattle.gdb_read.specs.Steps.{Row, headSeen}
+use Rattle.gdb_frames.specs.Nth.{foundBy}
+use Rattle.gdb_frames.specs.Places.{part}
+use Rattle.gdb_frames.specs.Questions.{dataIn}
+use Rattle.gdb_seek.specs.Walk.{beforeEnd, headOrEnd, Walk, walkTo}
+use Rattle.gdb_seek.specs.Found.{judged, foundBehind, foundIn, frameFound}
+use Rattle.gdb_seek.specs.Turns.{head-met}
+use Rattle.gdb_seek.specs.Heads.{head-here, rest-here, data-here, here-head}
+
+-- the file starts with an opening and n sound frames; behind them anything
+pub record StartsSound (f : Format) (b : List ℕ) (n : ℕ) : Type 0 where
+  pub lines : List (List ℕ)
+  pub sound : List Frame
+  pub rest : List ℕ
+  pub lines-fit : LinesFit f lines
+  pub sound-fit : Each (FrameFits f (registerSize f lines)) sound
+  pub so-many : length sound ≡ n
+  pub laid-out : opening lines ++ (concatMap (putFrame f) sound ++ rest) ≡ b
+
+-- ---- the frame that is refused
+
+module _ (f : Format) (b : List ℕ) where
+  -- over frames that are laid out the walk goes on to what stands behind them
+  walk-over : (rs : List Frame) (at : ℕ) (rest : List ℕ) → Each (λ r. HeadFits (headIn f r)) rs → drop at b ≡ concatMap (putFrame f) rs ++ rest
+      → walkTo f b (length rs) at .reached ≡ next (headOrEnd f b (at + length (concatMap (putFrame f) rs))) (foundBy (λ v. v))
+  walk-over [] at rest g e = ap (λ a. next (headOrEnd f b a) (foundBy (λ v. v))) (sym (add-zero at))
+  walk-over (r ∷ rs) at rest g e =
+      let more = concatMap (putFrame f) rs ++ rest in
+      let i : drop at b ≡ putFrame f r ++ more = e ∙ append-assoc (putFrame f r) (concatMap (putFrame f) rs) rest in
+      let k : at + length (putFrame f r) + length (concatMap (putFrame f) rs) ≡ at + length (concatMap (putFrame f) (r ∷ rs)) =
+      omega (arith, length-append (putFrame f r) (concatMap (putFrame f) rs)) in
+      rw (head-here f b at (headIn f r) more i (g .0))
+      (walk-over rs (at + length (putFrame f r)) rest (g .1) (rest-here f b at (headIn f r) more i)
+      ∙ ap (λ a. next (headOrEnd f b a) (foundBy (λ v. v))) k)
+
+  -- no end stands at `at`, and the frame there is refused
+  abbrev FrameRefused : Option ℕ → ℕ → ℕ → Type 0
+  FrameRefused size at k = (ending (drop at b) ≡ none) × (frame f size (drop at b) ≡ refused k)
+
+  module _ (size : Option ℕ) (at k : ℕ) where
+    head-refused : headOrEnd f b at ≡ refused k → FrameRefused size at k
+    unfolding frame
+    head-refused e = by (ending (drop at b)) refl e
+      where
+        by : (x : Option Bool) → ending (drop at b) ≡ x → beforeEnd x (stepAt headSeen (frameHead f) b at) ≡ refused k → FrameRefused size at k
+        by (some m) i e = never (sym e)
+        by none i e = (i, rw (step-refused headSeen (frameHead f) (takes-head f) b at k e .1))
+
+    blocks-refused : (d rest : List ℕ) → blocks f size d [] ≡ refused k → blocks f size d rest ≡ refused k
+    unfolding blocks
+    blocks-refused d rest e = rw (refused-inv k (toEndAfter (blockAfter f size) seenAfter false d) (λ l. (l, [])) (sym e))
+
+    -- a head with data that blocks do not fill
+    data-refused : (w : Bytes b) (v : Row) (m : ℕ) → headOrEnd f b at ≡ accepted (some (v, m)) → blocks f size (part b (accepted (dataIn v))) [] ≡ refused k
+        → FrameRefused size at k
+    unfolding frame
+    data-refused w v m e i =
+        let q = here-head f b at w v m e in
+        let h = q .0 in
+        let head-read : frameHead f (drop at b) ≡ accepted (h, drop m b) = ap (frameHead f) (q .2) ∙ (exact-head f) .back h (drop m b) (q .1) in
+        let own : part b (accepted (dataIn v)) ≡ h .1 = ap (λ r. part b (accepted (dataIn r))) (sym (q .3)) ∙ data-here f b at h (drop m b) (q .2) in
+        (head-met f b at (v, m) (sym e) .0, rw (head-read, blocks-refused (h .1) (drop m b) (rw own at i)))
+
+  -- whichever of both it is
+  frame-refused : (w : Bytes b) (size : Option ℕ) (at k : ℕ) → (k ≡ notFound → ⊥) → (v : Walk) → v .reached ≡ next (headOrEnd f b at) (foundBy (λ v. v))
+      → judged f size b v ≡ refused k → FrameRefused size at k
+  frame-refused w size at k other v i e = by (headOrEnd f b at) refl (rw i at e)
+    where
+      by : (x : Answer (Option (Row × ℕ))) → headOrEnd f b at ≡ x
+          → next {B = (ℕ × ℕ) × ℕ} (next x (foundBy (λ v. v))) (λ r.
+          next {B = (ℕ × ℕ) × ℕ} (blocks f size (part b (accepted (dataIn r))) []) (λ q. accepted (dataIn r, length (v .visited)))) ≡ refused k
+          → FrameRefused size at k
+      by (refused j) i e = head-refused size at k (i ∙ ap refused (refused-one e))
+      by (accepted none) i e = absurd (other (sym (refused-one e)))
+      by (accepted (some r)) i e = data-refused size at k w (r .0) (r .1) i (refused-inv k (blocks f size (part b (accepted (dataIn (r .0)))) []) _ (sym e))
+
+-- ---- the whole reading
+
+module _ (f : Format) (size : Option ℕ) where
+  no-end : (d : List ℕ) → ending d ≡ none → (0 < length d) × (sameBytes d mark ≡ false)
+  no-end [] e = clash (cc)
+  no-end (x ∷ xs) e = (omega arith, by (sameBytes (x ∷ xs) mark) e)
+    where
+      by : (t : Bool) → cond t (some true) none ≡ none → t ≡ false
+      by true e = clash (cc)
+      by false e = refl
+
+  -- refused behind sound frames is refused
+  frames-refused : (rs : List Frame) (rest : List ℕ) (k : ℕ) → Each (FrameFits f size) rs → ending rest ≡ none → frame f size rest ≡ refused k
+      → frames f size (concatMap (putFrame f) rs ++ rest) ≡ refused k
+  frames-refused [] rest k g i e = let q = no-end rest i in frames-fault f size rest k (q .0) (q .1) e
+  frames-refused (r ∷ rs) rest k g i e =
+      let more = concatMap (putFrame f) rs ++ rest in
+      ap (frames f size) (append-assoc (putFrame f r) (concatMap (putFrame f) rs) rest)
+      ∙ frames-more f size (putFrame f r ++ more) r more ((exact-frame f size) .back r more (g .0))
+      ∙ rw (frames-refused rs rest k (g .1) i e)
+
+module _ (f : Format) (b : List ℕ) (n k : ℕ) (w : Bytes b) (z : StartsSound f b n) where
+  abbrev start : ℕ
+  start = length (opening (z .lines))
+
+  abbrev size : Option ℕ
+  size = registerSize f (z .lines)
+
+  opened : openingLines f b ≡ accepted (z .lines, concatMap (putFrame f) (z .sound) ++ z .rest)
+  opened = ap (openingLines f) (sym (z .laid-out)) ∙ (exact-opening f) .back (z .lines) _ (z .lines-fit)
+
+  behind : drop start b ≡ concatMap (putFrame f) (z .sound) ++ z .rest
+  behind = ap (drop start) (sym (z .laid-out)) ∙ drop-at (opening (z .lines)) _ start refl
+
+  abbrev end : ℕ
+  end = start + length (concatMap (putFrame f) (z .sound))
+
+  rest-there : drop end b ≡ z .rest
+  rest-there =
+      let hs = concatMap (putFrame f) (z .sound) in
+      sym (drop-drop (length hs) start b) ∙ ap (drop (length hs)) behind ∙ drop-at hs (z .rest) (length hs) refl
+
+  trace-refused : (k ≡ notFound → ⊥) → foundBehind f b n (z .lines) ≡ refused k → trace f b ≡ refused k
+  unfolding trace
+  trace-refused other e =
+      let reach : walkTo f b n start .reached ≡ next (headOrEnd f b end) (foundBy (λ v. v)) =
+      ap (λ m. walkTo f b m start .reached) (sym (z .so-many))
+      ∙ walk-over f b (z .sound) start (z .rest) (each-map (λ r g. (g .0, g .1, g .3)) (z .sound) (z .sound-fit)) behind in
+      let q = frame-refused f b w size end k other (walkTo f b n start) reach e in
+      let here : (ending (z .rest) ≡ none) × (frame f size (z .rest) ≡ refused k) = rw rest-there at q in
+      rw (opened, frames-refused f size (z .sound) (z .rest) k (z .sound-fit) (here .0) (here .1))
+
+-- where the file starts with an opening and n sound frames, what is refused but for 12 is refused so by the whole reading
+pub first-fault : (s : Settings) (f : Format) (b : List ℕ) (n k : ℕ) → Bytes b → settingsOf s ≡ accepted f → StartsSound f b n → (k ≡ notFound → ⊥)
+    → frameFound s b n ≡ refused k → read s b ≡ refused k
+unfolding frameFound read decode
+first-fault s f b n k w ok z other e = rw ok (by (leb (length b) limit) (rw ok at e))
+  where
+    by : (t : Bool) → cond t (next (openingLines f b) (λ o. foundBehind f b n (o .0))) (refused tooLong) ≡ refused k
+        → next {B = Format × Trace} (cond t (trace f b) (refused tooLong)) (λ t. accepted (f, t)) ≡ refused k
+    by true e = rw (trace-refused f b n k w z other (rw (opened f b n k w z) at e))
+    by false e = ap refused (refused-one e)
