@@ -20,6 +20,11 @@ int is_place(tfk_place answer, uint8_t refusal, size_t place, size_t length)
     return answer.refusal == refusal && answer.place == place && answer.length == length;
 }
 
+int is_frame_part(tfk_frame_part answer, uint8_t refusal, size_t place, size_t length, size_t heads)
+{
+    return answer.refusal == refusal && answer.place == place && answer.length == length && answer.heads == heads;
+}
+
 int is_line(tfk_line answer, uint8_t refusal, uint8_t kind, size_t place, size_t length)
 {
     return answer.refusal == refusal && answer.kind == kind && answer.place == place && answer.length == length;

@@ -8,6 +8,7 @@ int is_settings(tfk_settings answer, uint8_t order, uint8_t base);
 int is_count(tfk_count answer, uint8_t refusal, size_t count);
 int is_mark(tfk_mark answer, uint8_t refusal, uint8_t marked);
 int is_place(tfk_place answer, uint8_t refusal, size_t place, size_t length);
+int is_frame_part(tfk_frame_part answer, uint8_t refusal, size_t place, size_t length, size_t heads);
 int is_line(tfk_line answer, uint8_t refusal, uint8_t kind, size_t place, size_t length);
 int is_value(tfk_value answer, uint8_t refusal, int64_t value);
 int is_length(tfk_length answer, uint8_t refusal, size_t length);

@@ -10,14 +10,29 @@
 const tfk_selection EVERY = {{{0, 0}}, 0, 0};
 const tfk_selection NONE = {{{0, 0}}, 0, 1};
 
-/* The questions of frame n answer with this refusal. */
-static void frame_refused(tfk_settings settings, const uint8_t *file, size_t length, size_t n, uint8_t refusal)
+size_t frames_shown(tfk_settings settings, const uint8_t *file, size_t length)
 {
-    CHECK(is_place(tfk_frame_place(settings, file, length, n), refusal, 0, 0));
+    size_t n = 0;
+    /* No file has as many frames as bytes. */
+    while (n < length && tfk_frame_place(settings, file, length, n).refusal == 0) {
+        n++;
+    }
+    return n;
+}
+
+void frame_refused(tfk_settings settings, const uint8_t *file, size_t length, size_t n, uint8_t refusal)
+{
     CHECK(no_block(tfk_block_record(settings, file, length, n, 0), refusal));
     CHECK(is_place(tfk_registers_place(settings, file, length, n), refusal, 0, 0));
     CHECK(is_place(tfk_memory_place(settings, file, length, n, 0x4D), refusal, 0, 0));
     CHECK(is_value(tfk_variable(settings, file, length, n, 1), refusal, 0));
+}
+
+/* An accepted file has no frame n. */
+static void frame_missing(tfk_settings settings, const uint8_t *file, size_t length, size_t n)
+{
+    CHECK(is_frame_part(tfk_frame_place(settings, file, length, n), TFK_NOT_FOUND, 0, 0, 0));
+    frame_refused(settings, file, length, n, TFK_NOT_FOUND);
 }
 
 void pair_refused(tfk_settings settings, const uint8_t *first, size_t first_length, const uint8_t *second,
@@ -58,6 +73,8 @@ void all_refuse(tfk_settings settings, const uint8_t *file, size_t length, uint8
 {
     enum { ROOM = 100, BARE_LENGTH = sizeof(BARE) - 1 };
     uint8_t *good = exactly((const uint8_t *)BARE, BARE_LENGTH);
+    size_t shown = frames_shown(settings, file, length);
+    CHECK(is_frame_part(tfk_frame_place(settings, file, length, shown), refusal, 0, 0, 0));
     CHECK(is_count(tfk_frame_count(settings, file, length), refusal, 0));
     CHECK(is_mark(tfk_end_mark(settings, file, length), refusal, 0));
     CHECK(is_line(tfk_line_place(settings, file, length, 0), refusal, 0, 0, 0));
@@ -79,7 +96,7 @@ static void table_filled(tfk_settings settings, const uint8_t *file, size_t leng
     tfk_frame *table = patterned((frames + more) * sizeof *table);
     CHECK(is_count(tfk_frame_table(settings, file, length, table, frames + more), 0, frames));
     for (size_t n = 0; n < frames; n++) {
-        CHECK(is_place(tfk_frame_place(settings, file, length, n), 0, table[n].place, table[n].size));
+        CHECK(is_frame_part(tfk_frame_place(settings, file, length, n), 0, table[n].place, table[n].size, n + 1));
         tfk_place registers = tfk_registers_place(settings, file, length, n);
         CHECK(registers.refusal == (table[n].has_registers ? 0 : TFK_NOT_FOUND));
         CHECK(table[n].has_registers <= 1 && registers.place == table[n].registers_place);
@@ -128,8 +145,8 @@ void all_accept(tfk_settings settings, const uint8_t *file, size_t length, size_
     CHECK(is_count(tfk_frame_count(settings, file, length), 0, frames));
     CHECK(is_mark(tfk_end_mark(settings, file, length), 0, marked));
     CHECK(is_line(tfk_line_place(settings, file, length, SIZE_MAX), TFK_NOT_FOUND, 0, 0, 0));
-    frame_refused(settings, file, length, frames, TFK_NOT_FOUND);
-    frame_refused(settings, file, length, SIZE_MAX, TFK_NOT_FOUND);
+    frame_missing(settings, file, length, frames);
+    frame_missing(settings, file, length, SIZE_MAX);
     table_filled(settings, file, length, frames, 0);
     table_filled(settings, file, length, frames, 2);
     if (frames > 0) {
@@ -142,7 +159,7 @@ void all_accept(tfk_settings settings, const uint8_t *file, size_t length, size_
     pair_refused(settings, file, length, file, length, 2 * frames, TFK_NOT_FOUND);
     pair_refused(settings, file, length, file, length, SIZE_MAX, TFK_NOT_FOUND);
     for (size_t n = 0; n < frames; n++) {
-        tfk_place place = tfk_frame_place(settings, file, length, n);
+        tfk_frame_part place = tfk_frame_place(settings, file, length, n);
         tfk_pair_part first = tfk_pair_place(settings, file, length, file, length, n);
         tfk_pair_part second = tfk_pair_place(settings, file, length, file, length, frames + n);
         CHECK(is_part(first, 0, 0, place.place, place.length));

@@ -136,7 +136,7 @@ static void before_the_mark(tfk_settings settings)
     CHECK(is_mark(tfk_end_mark(ASKED(trace)), 0, 1));
     CHECK(is_count(tfk_frame_table(ASKED(trace), records, 2), 0, 2));
     CHECK(is_frame(records[0], 1, 19, 3, 20) && is_frame(records[1], 2, 28, 31, 29));
-    CHECK(is_place(tfk_frame_place(ASKED(trace), 1), 0, 28, trace.length - MARK - 28));
+    CHECK(is_frame_part(tfk_frame_place(ASKED(trace), 1), 0, 28, trace.length - MARK - 28, 2));
     CHECK(is_registers(tfk_block_record(ASKED(trace), 1, 0), 28));
     CHECK(is_variable(tfk_block_record(ASKED(trace), 1, 1), 31, 1, -1));
     CHECK(is_memory(tfk_block_record(ASKED(trace), 1, 2), 44, 0x4D, 4));

@@ -15,6 +15,7 @@ static void at_every_length(const small_trace *trace, tfk_settings settings)
         step expected = step_at(trace, length);
         uint8_t *file = exactly(trace->file.bytes, length);
         about = length;
+        CHECK(frames_shown(settings, file, length) == expected.frames);
         if (expected.refusal != 0) {
             all_refuse(settings, file, length, expected.refusal);
         } else {

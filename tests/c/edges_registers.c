@@ -164,7 +164,7 @@ static void tabled(tfk_settings settings, const uint8_t *file, const written *tr
     tfk_frame *records = patterned(trace->frames * sizeof *records);
     CHECK(is_count(tfk_frame_table(settings, file, length, records, trace->frames), 0, trace->frames));
     for (size_t n = 0; n < trace->frames; n++) {
-        tfk_place data = tfk_frame_place(settings, file, length, n);
+        tfk_frame_part data = tfk_frame_place(settings, file, length, n);
         CHECK(is_frame(records[n], (uint16_t)(NUMBER + n), data.place, data.length, trace->registers[n]));
     }
     free(records);

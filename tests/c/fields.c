@@ -36,6 +36,7 @@ static void answered(void)
     CHECK(is_mark(tfk_end_mark(ASKED(marked)), 0, 1));
     CHECK(is_count(tfk_frame_table(ASKED(trace), records, 2), 0, 2) && is_frame(records[1], 7, 65, 17, 66));
     CHECK(is_line(tfk_line_place(ASKED(trace), 0), 0, TFK_LINE_R, 8, 3));
+    CHECK(is_frame_part(tfk_frame_place(ASKED(trace), 1), 0, 65, 17, 2));
     CHECK(is_place(tfk_registers_place(ASKED(trace), 1), 0, 66, 3));
     CHECK(is_memory(tfk_block_record(ASKED(trace), 0, 3), 47, 0x4D, 1));
     CHECK(is_variable(tfk_block_record(ASKED(trace), 0, 0), 19, UINT32_MAX, INT64_MIN));
@@ -55,6 +56,7 @@ static void refused(void)
     CHECK(is_count(tfk_frame_count(third, bytes, length), TFK_BAD_ARGUMENT, 0));
     CHECK(is_mark(tfk_end_mark(third, bytes, length), TFK_BAD_ARGUMENT, 0));
     CHECK(is_line(tfk_line_place(ASKED(trace), 1), TFK_NOT_FOUND, 0, 0, 0));
+    CHECK(is_frame_part(tfk_frame_place(ASKED(trace), 2), TFK_NOT_FOUND, 0, 0, 0));
     CHECK(is_place(tfk_registers_place(ASKED(trace), 2), TFK_NOT_FOUND, 0, 0));
     CHECK(no_block(tfk_block_record(ASKED(trace), 1, 2), TFK_NOT_FOUND));
     CHECK(is_value(tfk_variable(ASKED(trace), 1, 1), TFK_NOT_FOUND, 0));

@@ -29,9 +29,9 @@ static void frame(small_trace *trace, uint16_t tracepoint, uint32_t size, size_t
     size_t at = trace->file.length;
     put_number(&trace->file, tracepoint, 2);
     put_number(&trace->file, size, 4);
-    add(trace, at + 1, TFK_SHORT_HEAD, 0);
+    add(trace, at + 1, TFK_SHORT_HEAD, before);
     if (size > 0) {
-        add(trace, at + 6, TFK_DATA_PAST_FILE, 0);
+        add(trace, at + 6, TFK_DATA_PAST_FILE, before);
     }
     add(trace, at + 6 + size, 0, before + 1);
 }
@@ -41,12 +41,12 @@ static void ending(small_trace *trace, const char *bytes, size_t length, size_t 
 {
     size_t at = trace->file.length;
     put(&trace->file, bytes, length);
-    add(trace, at + 1, TFK_SHORT_HEAD, 0);
-    add(trace, at + 2, TFK_BAD_MARK, 0);
+    add(trace, at + 1, TFK_SHORT_HEAD, frames);
+    add(trace, at + 2, TFK_BAD_MARK, frames);
     if (memcmp(bytes, "\0\0\0\0", MARK) == 0) {
         add(trace, at + MARK, 0, frames);
         trace->steps[trace->step_count - 1].marked = 1;
-        add(trace, at + MARK + 1, TFK_BAD_MARK, 0);
+        add(trace, at + MARK + 1, TFK_BAD_MARK, frames);
     }
 }
 
@@ -131,7 +131,8 @@ static void one_frame(small_trace *trace, size_t i)
     frame(trace, 1, ONE_FRAME[i].size, 0);
     put(&trace->file, ONE_FRAME[i].data, ONE_FRAME[i].size);
     if (ONE_FRAME[i].refusal != 0) {
-        trace->steps[trace->step_count - 1].refusal = ONE_FRAME[i].refusal;
+        trace->step_count--;
+        add(trace, trace->file.length, ONE_FRAME[i].refusal, 0);
     }
 }
 

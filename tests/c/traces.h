@@ -7,7 +7,8 @@
 #define HEAD "\177TRACE0\n"
 #define BARE HEAD "\n"
 
-/* From this length on, up to the next step, the file is refused so, or has so many frames and the end mark or not. */
+/* From this length on, up to the next step, the file is refused so behind so many frames, or has so many in all and the
+   end mark or not. */
 typedef struct {
     size_t from;
     uint8_t refusal;
