@@ -42,7 +42,7 @@ void check(int holds, const char *what, const char *source, int line)
     }
 }
 
-static void *room(size_t size)
+void *unwritten(size_t size)
 {
     void *bytes = malloc(size);
     if (bytes == NULL) {
@@ -54,12 +54,12 @@ static void *room(size_t size)
 
 uint8_t *exactly(const uint8_t *bytes, size_t length)
 {
-    return memcpy(room(length), bytes, length);
+    return memcpy(unwritten(length), bytes, length);
 }
 
 void *patterned(size_t size)
 {
-    return memset(room(size), PATTERN, size);
+    return memset(unwritten(size), PATTERN, size);
 }
 
 int all_pattern(const void *bytes, size_t size)

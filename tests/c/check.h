@@ -18,6 +18,9 @@ void check(int holds, const char *what, const char *source, int line);
 /* Bytes in an allocation of exactly their number: one byte too far is past its end, which valgrind sees. */
 uint8_t *exactly(const uint8_t *bytes, size_t length);
 
+/* Room of exactly this size, in which nothing is written yet: valgrind sees an answer that goes by such a byte. */
+void *unwritten(size_t size);
+
 /* Room of exactly this size, filled with the pattern; and whether bytes are all the pattern. */
 void *patterned(size_t size);
 int all_pattern(const void *bytes, size_t size);

@@ -11,6 +11,7 @@ int main(void)
     answers();
     bases();
     tables();
+    partial();
     marks();
     registers();
     variables();

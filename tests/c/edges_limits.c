@@ -56,12 +56,12 @@ static void longest_file(const char *name, size_t mark)
 {
     size_t frames;
     uint8_t *file = long_trace(LIMIT, mark, &frames);
-    tfk_place last;
+    tfk_frame_part last;
     begin(name);
     CHECK(is_count(tfk_frame_count(LITTLE, file, LIMIT), 0, frames));
     CHECK(is_mark(tfk_end_mark(LITTLE, file, LIMIT), 0, mark != 0));
     last = tfk_frame_place(LITTLE, file, LIMIT, frames - 1);
-    CHECK(last.refusal == 0 && last.place + last.length == LIMIT - mark);
+    CHECK(last.refusal == 0 && last.place + last.length == LIMIT - mark && last.heads == frames);
     CHECK(is_memory(tfk_block_record(LITTLE, file, LIMIT, frames - 1, 0), last.place, 0, last.length - MEMORY_HEAD));
     free(file);
     end();
@@ -76,6 +76,29 @@ static void one_byte_more(const char *name, size_t mark)
     all_refuse(settings_of(0, TEN), file, LIMIT + 1, TFK_TOO_LONG);
     all_refuse(settings_of(2, SIXTEEN), file, LIMIT + 1, TFK_BAD_ARGUMENT);
     all_refuse(settings_of(0, 8), file, LIMIT + 1, TFK_BAD_ARGUMENT);
+    free(file);
+    end();
+}
+
+/* A bad letter in frame 1, and the last frame's data past the limit by a byte. The frames around frame 1 are shown at the
+   limit; with the byte more none is, and wrong settings come ahead of that. */
+static void faults_in_a_long_file(void)
+{
+    enum { DATA = OPENING + FRAME_HEAD, SIZE = LARGEST_FRAME - FRAME_HEAD };
+    size_t frames;
+    uint8_t *file = long_trace(LIMIT + 1, 0, &frames);
+    file[DATA + LARGEST_FRAME] = '?';
+    begin("frames of a file of 67,108,864 bytes with faults, and of one byte more");
+    CHECK(is_frame_part(tfk_frame_place(LITTLE, file, LIMIT, 0), 0, DATA, SIZE, 1));
+    CHECK(is_frame_part(tfk_frame_place(LITTLE, file, LIMIT, 1), TFK_BAD_LETTER, 0, 0, 0));
+    CHECK(is_frame_part(tfk_frame_place(LITTLE, file, LIMIT, 2), 0, DATA + 2 * LARGEST_FRAME, SIZE, 3));
+    CHECK(is_frame_part(tfk_frame_place(LITTLE, file, LIMIT, frames - 1), TFK_DATA_PAST_FILE, 0, 0, 0));
+    for (size_t n = 0; n <= frames; n++) {
+        about = n;
+        CHECK(is_frame_part(tfk_frame_place(LITTLE, file, LIMIT + 1, n), TFK_TOO_LONG, 0, 0, 0));
+        CHECK(is_frame_part(tfk_frame_place(settings_of(2, SIXTEEN), file, LIMIT + 1, n), TFK_BAD_ARGUMENT, 0, 0, 0));
+        CHECK(is_frame_part(tfk_frame_place(settings_of(0, 8), file, LIMIT + 1, n), TFK_BAD_ARGUMENT, 0, 0, 0));
+    }
     free(file);
     end();
 }
@@ -151,6 +174,7 @@ void limits(void)
     longest_file("a marked file of 67,108,864 bytes", MARK);
     one_byte_more("a file of 67,108,865 bytes", 0);
     one_byte_more("a marked file of 67,108,865 bytes", MARK);
+    faults_in_a_long_file();
     joined("a join of 67,108,864 bytes", LIMIT, 0, 0, 0);
     joined("a join of 67,108,865 bytes", LIMIT + 1, 0, 0, TFK_TOO_LONG);
     joined("a join of 67,108,864 bytes, the mark of both counted once", LIMIT, MARK, MARK, 0);
