@@ -32,6 +32,7 @@ fn declared() -> Vec<String> {
         tfk_count Count { refusal, count }
         tfk_mark Mark { refusal, marked }
         tfk_place Place { refusal, place, length }
+        tfk_frame_part FramePart { refusal, place, length, heads }
         tfk_line Line { refusal, kind, place, length }
         tfk_frame Frame { tracepoint, has_registers, place, size, registers_place }
         tfk_block Block { refusal, letter, number, place, address, length, value }

@@ -24,9 +24,9 @@ class Declared(unittest.TestCase):
         self.assertEqual(declared(TESTS), (self.header.structs, self.header.calls))
 
     def test_the_rust_wrapper(self):
-        """It has no use for three of the calls: places of frames and registers are in the frame table, and it has settings of its own."""
+        """It has no use for two of the calls: the place of a frame's registers is in the frame table, and it has settings of its own."""
         structs, calls = declared(WRAPPER)
-        unused = {name: self.header.calls[name] for name in ('tfk_frame_place', 'tfk_registers_place', 'tfk_default_settings')}
+        unused = {name: self.header.calls[name] for name in ('tfk_registers_place', 'tfk_default_settings')}
         self.assertEqual((structs, {**calls, **unused}), (self.header.structs, self.header.calls))
 
     def test_the_rust_wrapper_asks_before_every_call(self):

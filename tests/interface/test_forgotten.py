@@ -1,4 +1,6 @@
-"""Each declaration of the frame's record is held to the layout: with a field forgotten in one of them, a test of that language fails."""
+"""Each declaration of the frame's record and of a frame's part is held to the layout: with a field forgotten in one of them, a test of that
+language fails."""
+import itertools
 import os
 import re
 import shutil
@@ -14,19 +16,42 @@ import header
 NEEDED = ('include', 'bindings', 'crates', 'tests/interface', 'tests/rust/src', 'tests/python')
 LEFT_OUT = shutil.ignore_patterns('specs', 'proofs', 'target', 'expected', '__pycache__')
 
-FIELDS = ('has_registers', 'registers_place')
-INTERFACE, PYTHON = 'tests/interface', 'tests/python'
-RUST = r'^    pub {}: \w+,\n'
+# How a struct stands in each language, and how a field stands in it.
+C = r'typedef struct \{{[^}}]*\}} {};', r'^    \w+ {};\n'
+RUST = r'\bstruct {} \{{[^}}]*\}}', r'^    (?:pub )?{}: \w+,\n'
+MODULE = r'^{} = struct\([^)]*\)', r',\s+{}=c_\w+'
 
-# Each file that declares the record, how a field stands there, and the tests that hold it, with their folder.
+LAYOUT = 'tests/interface', 'test_layout'
+DECLARED = 'tests/interface', 'test_declared'
+PYTHON = 'tests/python', 'test_library.Header'
+
+# The fields to be forgotten of each struct; each file that declares it, with its name there; and the tests that hold the file.
 DECLARING = [
-    ('include/tufakpeni.h', r'^    \w+ {};\n', INTERFACE, 'test_layout'),
-    ('include/tufakpeni.h', r'^    \w+ {};\n', PYTHON, 'test_library.Header'),
-    ('crates/gdb_table/src/lib.rt', RUST, INTERFACE, 'test_declared'),
-    ('bindings/rust/src/raw.rs', RUST, INTERFACE, 'test_declared'),
-    ('tests/rust/src/c.rs', RUST, INTERFACE, 'test_declared'),
-    ('bindings/python/tufakpeni/_library.py', r',\s+{}=c_\w+', PYTHON, 'test_library.Header'),
+    (('has_registers', 'registers_place'), [
+        ('include/tufakpeni.h', 'tfk_frame', C, LAYOUT),
+        ('include/tufakpeni.h', 'tfk_frame', C, PYTHON),
+        ('crates/gdb_table/src/lib.rt', 'FrameRecord', RUST, DECLARED),
+        ('bindings/rust/src/raw.rs', 'Frame', RUST, DECLARED),
+        ('tests/rust/src/c.rs', 'Frame', RUST, DECLARED),
+        ('bindings/python/tufakpeni/_library.py', 'FrameRecord', MODULE, PYTHON),
+    ]),
+    (('refusal', 'place', 'length', 'heads'), [
+        ('include/tufakpeni.h', 'tfk_frame_part', C, LAYOUT),
+        ('include/tufakpeni.h', 'tfk_frame_part', C, PYTHON),
+        ('crates/gdb_flat/src/questions.rt', 'FramePart', RUST, DECLARED),
+        ('bindings/rust/src/raw.rs', 'FramePart', RUST, DECLARED),
+        ('tests/rust/src/c.rs', 'FramePart', RUST, DECLARED),
+        ('bindings/python/tufakpeni/_library.py', 'FramePart', MODULE, PYTHON),
+    ]),
 ]
+
+
+def without(text, struct, field, forms):
+    """A file's text without one field of a struct that it declares."""
+    of_struct, of_field = forms
+    (declared,) = re.findall(of_struct.format(struct), text, re.M)
+    (member,) = re.findall(of_field.format(field), declared, re.M)
+    return text.replace(declared, declared.replace(member, ''))
 
 
 class Forgotten(unittest.TestCase):
@@ -37,7 +62,8 @@ class Forgotten(unittest.TestCase):
         for name in NEEDED:
             shutil.copytree(header.ROOT / name, self.root / name, ignore=LEFT_OUT)
 
-    def passes(self, folder, tests):
+    def passes(self, held_by):
+        folder, tests = held_by
         environment = {**os.environ, 'PYTHONDONTWRITEBYTECODE': '1', 'PYTHONPATH': str(self.root / 'bindings/python')}
         words = [sys.executable, '-m', 'unittest', tests]
         ended = subprocess.run(words, cwd=self.root / folder, env=environment, capture_output=True, text=True)
@@ -45,20 +71,24 @@ class Forgotten(unittest.TestCase):
         return ended.returncode == 0
 
     def test_none_forgotten(self):
-        for folder, tests in sorted({(folder, tests) for _, _, folder, tests in DECLARING}):
-            with self.subTest(tests):
-                self.assertTrue(self.passes(folder, tests))
+        for held_by in (LAYOUT, DECLARED, PYTHON):
+            with self.subTest(held_by):
+                self.assertTrue(self.passes(held_by))
 
     def test_one_forgotten(self):
-        for name, form, folder, tests in DECLARING:
-            place = self.root / name
-            text = place.read_text()
-            for field in FIELDS:
-                with self.subTest(name, field=field, tests=tests):
-                    without, times = re.subn(form.format(field), '', text, flags=re.M)
-                    self.assertEqual(times, 1)
-                    place.write_text(without)
-                    self.assertFalse(self.passes(folder, tests))
+        for fields, declarations in DECLARING:
+            for declaration, field in itertools.product(declarations, fields):
+                with self.subTest(declaration, field=field):
+                    self.forget(*declaration, field)
+
+    def forget(self, name, struct, forms, held_by, field):
+        """The tests that hold a file fail with a field forgotten in it."""
+        place = self.root / name
+        text = place.read_text()
+        place.write_text(without(text, struct, field, forms))
+        try:
+            self.assertFalse(self.passes(held_by))
+        finally:
             place.write_text(text)
 
 
