@@ -1,7 +1,7 @@
 //! The blocks of a frame.
+use crate::opening::HEAD;
 use crate::raw;
 use crate::run::{Elements, Run};
-use crate::trace::HEAD;
 use crate::{Base, Settings};
 use std::iter::FusedIterator;
 use std::ops::Range;
@@ -35,7 +35,7 @@ pub(crate) struct Manner<'a> {
     pub register_size: Option<usize>,
 }
 
-/// The tracepoint number of a frame that is dressed: any but 0 would do, and this one has the same bytes in both orders.
+/// The tracepoint number of a frame whose blocks are dressed: any but 0 would do, and this one has the same bytes in both orders.
 const TRACEPOINT: [u8; 2] = [1, 1];
 
 impl<'a> Manner<'a> {
@@ -51,12 +51,17 @@ impl<'a> Manner<'a> {
 
     /// Makes `trace` a trace of one frame with these blocks, and answers where they stand in it.
     pub fn dress(&self, blocks: &[u8], trace: &mut Vec<u8>) -> usize {
+        self.dress_as(TRACEPOINT, blocks, trace)
+    }
+
+    /// The same, with these two bytes for the frame's tracepoint number.
+    pub fn dress_as(&self, tracepoint: [u8; 2], blocks: &[u8], trace: &mut Vec<u8>) -> usize {
         let size = u32::try_from(blocks.len()).expect("a frame's size has four bytes");
         trace.clear();
         trace.extend_from_slice(HEAD);
         trace.extend_from_slice(self.register_line);
         trace.push(b'\n');
-        trace.extend_from_slice(&TRACEPOINT);
+        trace.extend_from_slice(&tracepoint);
         trace.extend_from_slice(&self.settings.order.four_bytes(size));
         let place = trace.len();
         trace.extend_from_slice(blocks);

@@ -7,6 +7,9 @@
 //! base 16. Lines, frames, blocks and CPUs count from 0, and a place counts bytes from the file's start. What cannot be answered is
 //! a [`Refusal`], which knows its number and its sentence.
 //!
+//! For many frames open a [`Trace`], which reads the whole file and then has a table of them. For one frame of a long file there is
+//! [`find_frame`], which reads only what that frame needs, and finds it also where the file is at fault elsewhere.
+//!
 //! The archive that is linked must have this crate's interface. Where it has another, the first call panics with both numbers.
 //!
 //! ```
@@ -24,7 +27,9 @@
 mod blocks;
 mod dat;
 mod edit;
+mod find;
 mod lines;
+mod opening;
 mod order;
 mod raw;
 mod refusal;
@@ -35,6 +40,7 @@ mod trace;
 pub use blocks::{Block, Blocks, Content};
 pub use dat::{CpuRange, Ending, Section, TraceDat};
 pub use edit::{cut, cut_to_vec, join, join_to_vec, Pair, PairFrame, Selection, Side};
+pub use find::{find_frame, FoundFrame};
 pub use lines::{Line, LineKind, Lines};
 pub use order::Order;
 pub use refusal::Refusal;

@@ -1,7 +1,7 @@
 //! The lines of a trace's description.
+use crate::opening::HEAD;
 use crate::raw;
 use crate::run::{Elements, Run};
-use crate::trace::HEAD;
 use crate::Settings;
 use std::iter::FusedIterator;
 use std::ops::Range;

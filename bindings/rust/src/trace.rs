@@ -1,26 +1,18 @@
 //! A GDB trace and its frames.
 use crate::blocks::{Blocks, Manner};
-use crate::lines::{Line, LineKind, Lines};
+use crate::lines::{Line, Lines};
+use crate::opening::Opening;
 use crate::{raw, Order, Refusal, Settings};
-
-/// What every GDB trace starts with.
-pub(crate) const HEAD: &[u8] = b"\x7fTRACE0\n";
-
-/// A tracepoint number and a size stand before a frame's data.
-const FRAME_HEAD: usize = 6;
-
-/// The end mark has so many bytes.
-const MARK: usize = 4;
 
 /// A GDB trace that was read whole and accepted.
 ///
 /// Opening it reads the file twice, makes the frame table and finds the R line. A frame's registers come from that table, with no
 /// further reading. Each other question costs in the order of the frame, or of the description, that it is about; only
-/// [`is_marked`](Trace::is_marked) reads the file again, and where there are no frames whatever asks for the opening, which is then
-/// all of the file but the mark.
+/// [`is_marked`](Trace::is_marked) reads the file again. Where one frame is wanted, [`find_frame`](crate::find_frame) reads less.
 #[derive(Clone, Debug)]
 pub struct Trace<'a> {
     file: &'a [u8],
+    opening: Opening<'a>,
     manner: Manner<'a>,
     frames: Vec<raw::Frame>,
 }
@@ -41,17 +33,8 @@ impl<'a> Trace<'a> {
         let count = raw::frame_count(settings, file)?.count;
         let mut frames = vec![raw::Frame::default(); count];
         raw::frame_table(settings, file, &mut frames)?;
-        let mut trace = Trace { file, manner: Manner::new(settings, &[]), frames };
-        trace.manner = Manner::new(settings, trace.register_line());
-        Ok(trace)
-    }
-
-    /// The R line with its end; empty where there is none.
-    fn register_line(&self) -> &'a [u8] {
-        match self.lines().find(|line| line.kind == LineKind::R) {
-            Some(line) => &self.file[line.place..line.place + line.bytes.len() + 1],
-            None => &[],
-        }
+        let opening = Opening::of(settings, file);
+        Ok(Trace { file, opening, manner: opening.manner(), frames })
     }
 
     /// The settings that it was opened with.
@@ -82,12 +65,7 @@ impl<'a> Trace<'a> {
 
     /// The head and the description, with the empty line that closes it.
     pub fn opening(&self) -> &'a [u8] {
-        let end = match self.frames.first() {
-            Some(frame) => frame.place - FRAME_HEAD,
-            None if self.is_marked() => self.file.len() - MARK,
-            None => self.file.len(),
-        };
-        &self.file[..end]
+        self.opening.bytes
     }
 
     /// Whether the end mark, four bytes of 0, stands behind its frames. Debuggers write it when all else is saved. The answer
@@ -118,14 +96,12 @@ impl<'a> Trace<'a> {
     /// # Ok::<(), tufakpeni::Refusal>(())
     /// ```
     pub fn lines(&self) -> Lines<'a> {
-        let closing = self.opening().len() - 1;
-        Lines::new(self.settings(), self.file, HEAD.len()..closing)
+        self.opening.lines()
     }
 
-    /// Line j of the description. The opening alone is a trace, so that the library is asked there.
+    /// Line j of the description.
     pub fn line(&self, j: usize) -> Result<Line<'a>, Refusal> {
-        let line = raw::line_place(self.settings(), self.opening(), j)?;
-        Ok(Line::new(&line, line.place, self.file))
+        self.opening.line(j)
     }
 
     pub fn frame_count(&self) -> usize {
@@ -153,7 +129,7 @@ impl<'a> Trace<'a> {
     }
 
     fn frame_of(&self, number: usize, record: &raw::Frame) -> Frame<'a> {
-        Frame { file: self.file, number, record: *record, manner: self.manner }
+        Frame::new(self.file, number, *record, self.manner)
     }
 
     /// The blocks of frame n. See [`Frame::blocks`].
@@ -192,6 +168,10 @@ pub struct Frame<'a> {
 }
 
 impl<'a> Frame<'a> {
+    pub(crate) fn new(file: &'a [u8], number: usize, record: raw::Frame, manner: Manner<'a>) -> Frame<'a> {
+        Frame { file, number, record, manner }
+    }
+
     /// Which frame of the trace it is, from 0.
     pub fn number(&self) -> usize {
         self.number

@@ -2,8 +2,8 @@
 use super::bytes::{frame, marked, memory, opening, registers, trace, variable, ORDERS};
 use super::trace::answers_as_the_file;
 use crate::{
-    cut, cut_to_vec, join, join_to_vec, Base, Block, Content, LineKind, Order, Pair, Refusal, Selection, Settings,
-    Trace,
+    cut, cut_to_vec, find_frame, join, join_to_vec, Base, Block, Content, LineKind, Order, Pair, Refusal, Selection,
+    Settings, Trace,
 };
 
 fn ten(order: Order) -> Settings {
@@ -155,10 +155,11 @@ fn edits_and_pairs_read_in_the_base() {
     }
 }
 
-/// Every function that takes settings refuses with this.
+/// Every function that takes settings refuses with this; [`find_frame`] does so for the first frame that it does not find.
 pub fn all_refuse(settings: Settings, file: &[u8], refusal: Refusal) {
     let (every, bare, out) = (Selection::drop([]), opening(""), &mut [0xEE; 4096]);
     assert_eq!(Trace::open(settings, file).err(), Some(refusal));
+    assert_eq!((0..).find_map(|n| find_frame(settings, file, n).err()), Some(refusal));
     assert_eq!(cut(settings, file, &every, out), Err(refusal));
     assert_eq!(cut_to_vec(settings, file, &every), Err(refusal));
     assert_eq!(join(settings, file, file, out), Err(refusal));

@@ -3,6 +3,7 @@ mod bases;
 mod bytes;
 mod dat;
 mod edit;
+mod find;
 mod refusal;
 mod registers;
 mod table;

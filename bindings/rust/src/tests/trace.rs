@@ -3,7 +3,7 @@ use super::bytes::{frame, marked, memory, opening, registers, stands_at, trace, 
 use crate::{raw, Base, Block, Content, LineKind, Order, Pair, Refusal, Settings, Trace, LONGEST};
 use std::ops::Range;
 
-const BOARD: &[u8] = include_bytes!("../../../../samples/board.tf");
+pub const BOARD: &[u8] = include_bytes!("../../../../samples/board.tf");
 
 fn refusal(settings: impl Into<Settings>, file: &[u8]) -> Option<Refusal> {
     Trace::open(settings, file).err()
