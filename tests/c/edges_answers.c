@@ -1,5 +1,6 @@
 /* What the small traces answer, in both byte orders and bases: document 01's cases and their neighbours. */
 #include "answers.h"
+#include "asked.h"
 #include "check.h"
 #include "edges.h"
 #include "settings.h"
@@ -8,15 +9,7 @@
 #include <stdlib.h>
 #include <string.h>
 
-/* A small trace's file at the end of its allocation, with the first arguments of every question. */
-typedef struct {
-    tfk_settings settings;
-    uint8_t *file;
-    size_t length;
-} asked;
-
-#define ASKED(trace) (trace).settings, (trace).file, (trace).length
-
+/* A small trace's file at the end of its allocation. */
 static asked opened(size_t i, tfk_settings settings)
 {
     small_trace trace = small_trace_of(i, settings.order);

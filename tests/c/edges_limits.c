@@ -81,7 +81,7 @@ static void one_byte_more(const char *name, size_t mark)
 }
 
 /* A bad letter in frame 1, and the last frame's data past the limit by a byte. The frames around frame 1 are shown at the
-   limit; with the byte more none is, and wrong settings come ahead of that. */
+   limit; with the byte more none is, whatever the file holds, and wrong settings come ahead of that. */
 static void faults_in_a_long_file(void)
 {
     enum { DATA = OPENING + FRAME_HEAD, SIZE = LARGEST_FRAME - FRAME_HEAD };
@@ -99,6 +99,9 @@ static void faults_in_a_long_file(void)
         CHECK(is_frame_part(tfk_frame_place(settings_of(2, SIXTEEN), file, LIMIT + 1, n), TFK_BAD_ARGUMENT, 0, 0, 0));
         CHECK(is_frame_part(tfk_frame_place(settings_of(0, 8), file, LIMIT + 1, n), TFK_BAD_ARGUMENT, 0, 0, 0));
     }
+    file[0] = 0;
+    CHECK(is_frame_part(tfk_frame_place(LITTLE, file, LIMIT, 0), TFK_BAD_HEAD, 0, 0, 0));
+    CHECK(is_frame_part(tfk_frame_place(LITTLE, file, LIMIT + 1, 0), TFK_TOO_LONG, 0, 0, 0));
     free(file);
     end();
 }

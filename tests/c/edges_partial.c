@@ -3,6 +3,7 @@
  * elsewhere does not count; every other call refuses the file for it.
  */
 #include "answers.h"
+#include "asked.h"
 #include "calls.h"
 #include "check.h"
 #include "edges.h"
@@ -143,15 +144,6 @@ static const size_t BEYOND[] = {
     FRAMES, FRAMES + 1, (size_t)UINT32_MAX + 1, SIZE_MAX / 2, SIZE_MAX / 2 + 1, SIZE_MAX / 2 + 2, SIZE_MAX,
 };
 
-/* A file in room of its length, with the settings: the first arguments of every call. */
-typedef struct {
-    tfk_settings settings;
-    uint8_t *file;
-    size_t length;
-} asked;
-
-#define ASKED(trace) (trace).settings, (trace).file, (trace).length
-
 static made written(const row *given, uint8_t order)
 {
     made trace = {.order = order};
@@ -187,8 +179,12 @@ static void each_frame(asked trace, const row *given)
         CHECK(refuses(no_order, n, TFK_BAD_ARGUMENT));
         CHECK(refuses(no_base, n, TFK_BAD_ARGUMENT));
     }
+}
+
+static void frames_behind(asked trace, uint8_t refusal)
+{
     for (size_t i = 0; i < sizeof BEYOND / sizeof *BEYOND; i++) {
-        CHECK(refuses(trace, BEYOND[i], given->beyond));
+        CHECK(refuses(trace, BEYOND[i], refusal));
     }
 }
 
@@ -243,11 +239,11 @@ static void judged(tfk_settings settings, const row *given)
     made trace = written(given, settings.order);
     asked open = {settings, exactly(trace.bytes, trace.length), trace.length};
     each_frame(open, given);
+    frames_behind(open, given->beyond);
     from_parts(settings, &trace, given);
+    CHECK(tfk_frame_count(ASKED(open)).refusal == given->whole);
     if (given->whole != 0) {
         other_calls(open, given->whole);
-    } else {
-        CHECK(tfk_frame_count(ASKED(open)).refusal == 0);
     }
     free(open.file);
 }

@@ -1,5 +1,4 @@
-"""Each declaration of the frame's record and of a frame's part is held to the layout: with a field forgotten in one of them, a test of that
-language fails."""
+"""Each declaration of a frame's record and part is held to the layout: with a field forgotten in one of them, a test of that language fails."""
 import itertools
 import os
 import re
@@ -25,25 +24,23 @@ LAYOUT = 'tests/interface', 'test_layout'
 DECLARED = 'tests/interface', 'test_declared'
 PYTHON = 'tests/python', 'test_library.Header'
 
-# The fields to be forgotten of each struct; each file that declares it, with its name there; and the tests that hold the file.
-DECLARING = [
-    (('has_registers', 'registers_place'), [
-        ('include/tufakpeni.h', 'tfk_frame', C, LAYOUT),
-        ('include/tufakpeni.h', 'tfk_frame', C, PYTHON),
-        ('crates/gdb_table/src/lib.rt', 'FrameRecord', RUST, DECLARED),
-        ('bindings/rust/src/raw.rs', 'Frame', RUST, DECLARED),
-        ('tests/rust/src/c.rs', 'Frame', RUST, DECLARED),
-        ('bindings/python/tufakpeni/_library.py', 'FrameRecord', MODULE, PYTHON),
-    ]),
-    (('refusal', 'place', 'length', 'heads'), [
-        ('include/tufakpeni.h', 'tfk_frame_part', C, LAYOUT),
-        ('include/tufakpeni.h', 'tfk_frame_part', C, PYTHON),
-        ('crates/gdb_flat/src/questions.rt', 'FramePart', RUST, DECLARED),
-        ('bindings/rust/src/raw.rs', 'FramePart', RUST, DECLARED),
-        ('tests/rust/src/c.rs', 'FramePart', RUST, DECLARED),
-        ('bindings/python/tufakpeni/_library.py', 'FramePart', MODULE, PYTHON),
-    ]),
+# Of each struct the fields to be forgotten, its name in C, the file of the library that has it, and its names there, in Rust and in Python.
+STRUCTS = [
+    (('has_registers', 'registers_place'),
+     'tfk_frame', 'crates/gdb_table/src/lib.rt', 'FrameRecord', 'Frame', 'FrameRecord'),
+    (('refusal', 'place', 'length', 'heads'),
+     'tfk_frame_part', 'crates/gdb_flat/src/questions.rt', 'FramePart', 'FramePart', 'FramePart'),
 ]
+
+
+def declarations(in_c, library, in_library, in_rust, in_python):
+    """Each file that declares a struct, the struct's name and form there, and the tests that hold the file."""
+    yield 'include/tufakpeni.h', in_c, C, LAYOUT
+    yield 'include/tufakpeni.h', in_c, C, PYTHON
+    yield library, in_library, RUST, DECLARED
+    yield 'bindings/rust/src/raw.rs', in_rust, RUST, DECLARED
+    yield 'tests/rust/src/c.rs', in_rust, RUST, DECLARED
+    yield 'bindings/python/tufakpeni/_library.py', in_python, MODULE, PYTHON
 
 
 def without(text, struct, field, forms):
@@ -76,8 +73,8 @@ class Forgotten(unittest.TestCase):
                 self.assertTrue(self.passes(held_by))
 
     def test_one_forgotten(self):
-        for fields, declarations in DECLARING:
-            for declaration, field in itertools.product(declarations, fields):
+        for fields, *names in STRUCTS:
+            for declaration, field in itertools.product(declarations(*names), fields):
                 with self.subTest(declaration, field=field):
                     self.forget(*declaration, field)
 
