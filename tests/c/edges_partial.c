@@ -1,6 +1,6 @@
 /*
- * The data of frame n by the parts that are read for it: the opening, the heads of frames 0 to n, the blocks of frame n. A fault
- * elsewhere does not count; every other call refuses the file for it.
+ * The data of frame n by the parts that are read for it: the opening, the heads of frames 0 to n, the blocks of frame n.
+ * A fault elsewhere does not count; every other call refuses the file for it.
  */
 #include "answers.h"
 #include "asked.h"
@@ -208,29 +208,40 @@ static size_t size_at(const made *trace, size_t at)
     return size;
 }
 
-/* Of a trace only what is read for frame n, which is shown: nothing else of the file is ever written. */
-static uint8_t *parts_for(const made *trace, size_t opening, size_t n, tfk_frame_part shown)
+/* Where the frame ends whose head stands at this place; this place itself where there is none. */
+static size_t frame_end(const made *trace, size_t at)
+{
+    const uint8_t *head = trace->bytes + at;
+    size_t left = trace->length - at;
+    if (left < FRAME_HEAD || (head[0] == 0 && head[1] == 0)) {
+        return at;
+    }
+    return size_at(trace, at) <= left - FRAME_HEAD ? at + FRAME_HEAD + size_at(trace, at) : at;
+}
+
+/* Of a trace only what is read for frame n: nothing else of the file is ever written. */
+static uint8_t *parts_for(const made *trace, size_t opening, size_t n)
 {
     uint8_t *parts = unwritten(trace->length);
-    size_t at = opening;
+    size_t at = opening, end = opening;
     memcpy(parts, trace->bytes, opening);
     for (size_t i = 0; i <= n; i++) {
-        memcpy(parts + at, trace->bytes + at, FRAME_HEAD);
-        at += FRAME_HEAD + size_at(trace, at);
+        size_t left = trace->length - end;
+        at = end;
+        end = frame_end(trace, at);
+        memcpy(parts + at, trace->bytes + at, left < FRAME_HEAD ? left : FRAME_HEAD);
     }
-    memcpy(parts + shown.place, trace->bytes + shown.place, shown.length);
+    memcpy(parts + at, trace->bytes + at, end - at);
     return parts;
 }
 
+/* The answers from these parts alone: valgrind sees where one goes by another byte. */
 static void from_parts(tfk_settings settings, const made *trace, const row *given)
 {
     for (size_t n = 0; n < FRAMES; n++) {
-        if (given->shown[n].refusal == 0) {
-            uint8_t *parts = parts_for(trace, strlen(given->opening), n, given->shown[n]);
-            asked alone = {settings, parts, trace->length};
-            CHECK(answers_as(alone, n, given->shown[n]));
-            free(parts);
-        }
+        asked alone = {settings, parts_for(trace, strlen(given->opening), n), trace->length};
+        CHECK(answers_as(alone, n, given->shown[n]));
+        free(alone.file);
     }
 }
 

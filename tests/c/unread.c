@@ -1,7 +1,7 @@
 /*
- * tfk_frame_place reads the opening, the heads of frames 0 to n and the blocks of frame n. Here all else of a file lies in pages
- * that may not be read, and a call that reads there is at fault. A frame has four pages, with its head and a memory block in the
- * first, and a block more in the others; the first frame's pages hold the opening too.
+ * tfk_frame_place reads the opening, the heads of frames 0 to n and the blocks of frame n. Here all else of a file lies in
+ * pages that may not be read, and a call that reads there is at fault. A frame has four pages: its head and a memory block
+ * in the first, a second block in the others. The first frame's pages hold the opening too.
  */
 #define _DEFAULT_SOURCE
 #include "answers.h"

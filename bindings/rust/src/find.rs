@@ -18,7 +18,8 @@ pub struct FoundFrame<'a> {
 ///
 /// Only these parts of the file are read: the opening, the heads of frames 0 to n, and the blocks of frame n. So it costs what they
 /// cost, and the frame is found also where the file is at fault elsewhere. A fault in these parts is refused as by
-/// [`Trace::open`](crate::Trace::open); where the file ends before frame n, it is [`Refusal::NotFound`].
+/// [`Trace::open`](crate::Trace::open); where the file ends before frame n, it is [`Refusal::NotFound`]. For many frames open a trace:
+/// each call of this function walks the heads from the first one on.
 ///
 /// ```
 /// use tufakpeni::{find_frame, Order, Refusal, Trace};

@@ -1,6 +1,6 @@
 //! The opening of a GDB trace: its head and its description.
 use crate::blocks::Manner;
-use crate::lines::{Line, LineKind, Lines};
+use crate::lines::{Line, Lines};
 use crate::{raw, Refusal, Settings};
 
 /// What every GDB trace starts with.
@@ -37,11 +37,10 @@ impl<'a> Opening<'a> {
         Manner::new(self.settings, self.register_line())
     }
 
-    /// The R line with its end; empty where there is none.
+    /// The R line with its end; empty where there is none. Asking the library for the lines would cost more than the frame does, and it
+    /// has let them through: one of them at most starts so.
     fn register_line(&self) -> &'a [u8] {
-        match self.lines().find(|line| line.kind == LineKind::R) {
-            Some(line) => &self.bytes[line.place..line.place + line.bytes.len() + 1],
-            None => &[],
-        }
+        let mut lines = self.bytes.split_inclusive(|&byte| byte == b'\n');
+        lines.find(|line| line.starts_with(b"R ")).unwrap_or_default()
     }
 }

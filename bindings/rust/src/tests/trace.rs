@@ -24,6 +24,18 @@ fn openings() {
     }
 }
 
+/// What follows the first empty line may have others in it.
+#[test]
+fn the_opening_ends_at_the_first_empty_line() {
+    for order in ORDERS {
+        let file = trace("tp x\nR 2\n", &[frame(order, 0x0A0A, &[registers(b"\n\n"), memory(order, 1, b"\n\nR 3\n")])]);
+        let trace = Trace::open(order, &file).unwrap();
+        assert_eq!(trace.opening(), opening("tp x\nR 2\n"));
+        assert_eq!(trace.lines().map(|line| line.bytes).collect::<Vec<_>>(), [&b"tp x"[..], b"R 2"]);
+        assert_eq!(trace.register_size(), Some(2));
+    }
+}
+
 #[test]
 fn frame_heads() {
     let file = trace("", &[b"\x01\0\0\0\0\0".to_vec()]);
