@@ -79,6 +79,7 @@ static const row ROWS[] = {
     BEHIND("a bad mark, its third byte", "\0\0\1\0", TFK_BAD_MARK, TFK_BAD_MARK),
     BEHIND("a bad mark, its fourth byte", "\0\0\0\1", TFK_BAD_MARK, TFK_BAD_MARK),
     BEHIND("five bytes", "\1\0\0\0\0", TFK_SHORT_HEAD, TFK_SHORT_HEAD),
+    BEHIND("five bytes of 0", "\0\0\0\0\0", TFK_BAD_MARK, TFK_BAD_MARK),
     BEHIND("the end mark and a byte", "\0\0\0\0\1", TFK_BAD_MARK, TFK_BAD_MARK),
     BEHIND("the end mark and two bytes", "\0\0\0\0\0\0", TFK_BAD_MARK, TFK_BAD_MARK),
     BEHIND("the end mark and a frame", "\0\0\0\0\1\1\0\0\0\0", TFK_BAD_MARK, TFK_BAD_MARK),
