@@ -14,10 +14,11 @@ What is handed out are parts of the caller's bytes, not copies. A file or a ques
 Refused, with the number and the sentence of document 01's table, or of document 02's requests."""
 from ._library import LibraryMissing, LibraryUnfit
 from .dat import CpuRange, Section, TraceDat
+from .description import Line
 from .edit import Selection, cut, cut_into, join, join_into
 from .pair import Pair, PairFrame
 from .refusal import Refusal, Refused
-from .trace import Frame, Line, Memory, Registers, Trace, Variable
+from .trace import Frame, Memory, Registers, Trace, Variable
 
 __all__ = [
     'CpuRange', 'Frame', 'LibraryMissing', 'LibraryUnfit', 'Line', 'Memory', 'Pair', 'PairFrame', 'Refusal', 'Refused',

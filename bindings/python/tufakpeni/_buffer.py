@@ -62,7 +62,19 @@ def lent(view):
         _release(ctypes.byref(held))
 
 
-class Holder:
+class Closing:
+    """Is closed where a `with` that has it ends."""
+
+    __slots__ = ()
+
+    def __enter__(self):
+        return self
+
+    def __exit__(self, *_):
+        self.close()
+
+
+class Holder(Closing):
     """Holds the caller's bytes until it is closed. The parts that it handed out hold them by themselves."""
 
     def __init__(self, *files):
@@ -81,12 +93,6 @@ class Holder:
     def close(self):
         for file in self._files:
             file.release()
-
-    def __enter__(self):
-        return self
-
-    def __exit__(self, *_):
-        self.close()
 
     def part(self, place, length, which=0):
         """So many bytes of a file from a place on."""

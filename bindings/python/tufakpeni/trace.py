@@ -1,24 +1,10 @@
-"""GDB traces: lines, frames and blocks, as parts of the caller's bytes."""
-import functools
+"""GDB traces: frames and blocks, as parts of the caller's bytes."""
 import itertools
 from typing import NamedTuple
 
-from ._buffer import Holder
-from ._library import FrameRecord, ask, fits, index, settings
+from ._library import FrameRecord, ask, fits, index
+from .description import Description
 from .refusal import Refusal, Refused, absence_passed
-
-KINDS = ('other', 'R', 'status', 'tp', 'tsv', 'tdesc')
-HEAD = 8
-FRAME_HEAD = 6
-MARK = 4
-
-
-class Line(NamedTuple):
-    """A line of the description, without its end. `kind` is one of KINDS."""
-
-    kind: str
-    place: int
-    data: memoryview
 
 
 class Registers(NamedTuple):
@@ -107,14 +93,7 @@ class Frame:
         return ask('tfk_variable', self._trace._settings, alone, 0, number).value
 
     def _alone(self):
-        """A trace of the opening and this frame only, and how far its places must be moved to be the file's.
-
-        A question reads the whole file that it is given, so asking the file about every frame takes the square of its
-        length. The opening and one frame are a trace too, in which the frame is frame 0 and has the same blocks."""
-        head = self.place - FRAME_HEAD
-        opening = self._trace.opening
-        frame = self._trace.part(head, FRAME_HEAD + self.size)
-        return memoryview(b''.join((opening, frame))), head - len(opening)
+        return self._trace.alone(self.place, self.size)
 
     def _block(self, record, end, moved):
         place, end = record.place + moved, end + moved
@@ -127,22 +106,25 @@ class Frame:
         return Registers(place, self._trace.part(place + 1, end - place - 1))
 
 
-class Trace(Holder):
+def frame_table(settings, file, count):
+    """The records of a file's frames, of which there are so many."""
+    table = (FrameRecord * count)()
+    ask('tfk_frame_table', settings, file, table, count)
+    return table
+
+
+class Trace(Description):
     """A GDB trace over the caller's bytes. Of a map of a file that other processes write to, give it a copy.
 
     It has its frames as length and iteration. Where the bytes are no trace, making it raises Refused.
 
     `base` is that of the number in the R line: 16, as debuggers write it, or 10; any other is refused."""
 
-    def __init__(self, data, order='little', base=16):
-        self._settings = settings(order, base)
-        super().__init__(data)
-
     def _read(self):
         file, = self._files
         count = ask('tfk_frame_count', self._settings, file).count
-        self._table = (FrameRecord * count)()
-        ask('tfk_frame_table', self._settings, file, self._table, count)
+        self._table = frame_table(self._settings, file, count)
+        super()._read()
 
     def __len__(self):
         return len(self._table)
@@ -160,49 +142,3 @@ class Trace(Holder):
         """Whether the end mark, four bytes of 0, stands behind the frames. Debuggers write it when all else is saved.
         The answer takes a reading of the whole file."""
         return bool(ask('tfk_end_mark', self._settings, *self._files).marked)
-
-    @property
-    def opening(self):
-        """The head and the description, with its empty line."""
-        file, = self._files
-        if len(self):
-            return file[:self._table[0].place - FRAME_HEAD]
-        return file[:len(file) - MARK] if self.marked else file[:]
-
-    @property
-    def lines(self):
-        """The description's lines, the closing empty one not among them."""
-        return list(self._lines())
-
-    def _lines(self):
-        """The same one by one. A line alone is a description too, and it is the one that is asked: see Frame._alone."""
-        opening = bytes(self.opening)
-        place = HEAD
-        while not opening.startswith(b'\n', place):
-            end = opening.index(b'\n', place)
-            alone = memoryview(opening[:HEAD] + opening[place:end] + b'\n\n')
-            line = ask('tfk_line_place', self._settings, alone, 0)
-            yield Line(KINDS[line.kind], place, self.part(place, line.length))
-            place = end + 1
-
-    @property
-    def base(self):
-        """The base in which the R line is read."""
-        return self._settings.base
-
-    @property
-    def register_line(self):
-        """The R line; None where there is none."""
-        return next((line for line in self._lines() if line.kind == 'R'), None)
-
-    @property
-    def register_size(self):
-        """How many bytes a register block has by the R line; None where there is no such line."""
-        return self._register_size
-
-    @functools.cached_property
-    def _register_size(self):
-        """The same, looked for once: every frame's registers go by it."""
-        line = self.register_line
-        # The library has let the line through, so nothing but digits of the base stands behind its word.
-        return None if line is None else int(bytes(line.data[len('R '):]), self.base)
