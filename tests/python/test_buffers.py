@@ -2,29 +2,15 @@
 import array
 import ctypes
 import mmap
-import tempfile
 import unittest
 
 from build import BARE, LITTLE, dat
-from cases import Case
-from tufakpeni import Pair, Refused, Selection, Trace, TraceDat, cut, cut_into, join, join_into
-from tufakpeni._buffer import flat, lent
+from cases import Case, address, mapped
+from tufakpeni import Pair, Refused, Selection, Trace, TraceDat, cut, cut_into, find_fault, find_frame, join, join_into
 
 # Of even length, so that it can be seen as 16-bit words too.
 FILE = LITTLE.trace(['R 4'], LITTLE.frame(1, LITTLE.registers(b'abcd'), LITTLE.memory(16, b'vwxyz')))
 EVERY = Selection([(0, 65535)])
-
-
-def mapped(data, access=mmap.ACCESS_READ):
-    with tempfile.TemporaryFile() as file:
-        file.write(data)
-        file.flush()
-        return mmap.mmap(file.fileno(), 0, access=access)
-
-
-def address(data):
-    with flat(data) as view, lent(view) as (start, _):
-        return start
 
 
 class Kinds(Case):
@@ -36,9 +22,10 @@ class Kinds(Case):
     def test_every_kind(self):
         for data in self.kinds(FILE):
             with self.subTest(type(data).__name__):
-                frame, = Trace(data)
-                self.assertEqual(bytes(frame.registers), b'abcd')
-                self.assertEqual(bytes(frame.memory(17)), b'wxyz')
+                for frame in (*Trace(data), find_frame(data, 0)):
+                    self.assertEqual(bytes(frame.registers), b'abcd')
+                    self.assertEqual(bytes(frame.memory(17)), b'wxyz')
+                self.assertIsNone(find_fault(data))
                 self.assertEqual(cut(data, EVERY), FILE)
                 self.assertEqual(join(data, data), FILE + FILE[13:])
                 self.assertEqual(bytes(Pair(data, data).frame(1).data), bytes(frame.data))
@@ -51,18 +38,22 @@ class Kinds(Case):
         nowhere = (ctypes.c_char * 0).from_address(0)
         for data in (b'', bytearray(), memoryview(b''), array.array('Q'), nowhere, memoryview(FILE)[5:5]):
             self.refused(3, Trace, data)
+            self.refused(3, find_frame, data, 0)
+            self.refused(3, find_fault, data)
             self.refused(3, join, BARE, data)
             self.refused(14, TraceDat, data)
             self.refused(11, cut_into, bytearray(), BARE, EVERY)
 
     def test_an_empty_part(self):
-        frame, = Trace(bytearray(LITTLE.trace([], LITTLE.frame(1))))
-        self.assertEqual(bytes(frame.data), b'')
+        data = bytearray(LITTLE.trace([], LITTLE.frame(1)))
+        for frame in (*Trace(data), find_frame(data, 0)):
+            self.assertEqual(bytes(frame.data), b'')
 
     def test_what_is_no_buffer(self):
         for data in ('text', None, 7, [1, 2]):
-            self.assertRaises(TypeError, Trace, data)
-        self.assertRaises(BufferError, Trace, memoryview(FILE)[::2])
+            for call in (Trace, find_fault, lambda given: find_frame(given, 0)):
+                self.assertRaises(TypeError, call, data)
+                self.assertRaises(BufferError, call, memoryview(FILE)[::2])
 
 
 class NoCopy(Case):
@@ -81,8 +72,10 @@ class NoCopy(Case):
             frame, = trace
             self.assertEqual(address(trace.opening), start)
             self.assertEqual(address(trace.lines[0].data), start + 8)
-            self.assertEqual(address(frame.data), start + frame.place)
-            self.assertEqual([address(block.data) for block in frame.blocks], [start + 20, start + 35])
+            for each in (frame, find_frame(data, 0)):
+                self.assertEqual(address(each.data), start + frame.place)
+                self.assertEqual([address(block.data) for block in each.blocks], [start + 20, start + 35])
+                self.assertEqual((address(each.registers), address(each.memory(17))), (start + 20, start + 36))
             self.assertEqual(address(Pair(BARE[:-1] + b'R 4\n\n', data).frame(0).data), start + frame.place)
 
     def test_trace_dat_addresses(self):
@@ -90,7 +83,8 @@ class NoCopy(Case):
         self.assertEqual(address(TraceDat(data).kallsyms), address(data) + data.index(b'symbols'))
 
     def test_parts_of_a_read_only_map_are_read_only(self):
-        self.assertTrue(Trace(mapped(FILE)).frame(0).data.readonly)
+        for frame in (Trace(mapped(FILE)).frame(0), find_frame(mapped(FILE), 0)):
+            self.assertTrue(frame.data.readonly)
 
 
 class Holding(Case):
@@ -103,6 +97,33 @@ class Holding(Case):
         self.assertEqual(part[0], ord('R'))
         part.release()
         data.clear()
+
+    def test_a_found_frame_holds_until_it_is_closed(self):
+        """With it the parts that it handed out; they end by themselves."""
+        data = bytearray(FILE)
+        with find_frame(data, 0) as frame:
+            self.assertRaises(BufferError, data.clear)
+            part = frame.registers
+        for ask in (lambda: frame.data, lambda: frame.blocks, lambda: frame.registers, lambda: frame.memory(16)):
+            self.assertRaises(ValueError, ask)
+        self.assertEqual((frame.number, frame.place, frame.heads), (0, 19, 1))
+        self.assertRaises(BufferError, data.clear)
+        self.assertEqual(bytes(part), b'abcd')
+        part.release()
+        data.clear()
+
+    def test_a_found_frame_that_is_let_go_holds_nothing(self):
+        data = mapped(FILE)
+        self.assertEqual(find_frame(data, 0).tracepoint, 1)
+        data.close()
+
+    def test_a_found_frame_s_map_can_be_closed_after(self):
+        data = mapped(FILE)
+        frame = find_frame(data, 0)
+        self.assertEqual([len(frame.blocks), frame.description.register_size, len(frame.description.lines)], [2, 4, 1])
+        self.assertRaises(BufferError, data.close)
+        frame.close()
+        data.close()
 
     def test_a_map_can_be_closed_after(self):
         for make in (Trace, lambda data: Pair(data, data)):
@@ -119,7 +140,7 @@ class Holding(Case):
     def test_a_map_can_be_closed_after_a_refusal(self):
         data = mapped(b'no trace')
         for call in (Trace, TraceDat, lambda file: Pair(file, file), lambda file: cut(file, EVERY),
-                     lambda file: join(file, file)):
+                     lambda file: join(file, file), find_fault, lambda file: find_frame(file, 0)):
             try:
                 call(data)
             except Refused as refused:

@@ -8,7 +8,7 @@ import unittest
 
 from cases import Case
 from repository import MODULE
-from tufakpeni import Pair, Trace, _library, cut, cut_into, join, join_into
+from tufakpeni import Pair, Trace, _library, cut, cut_into, find_fault, find_frame, join, join_into
 
 import header
 import layout
@@ -18,9 +18,10 @@ TYPES = {
     'int64_t': ctypes.c_int64, 'size_t': ctypes.c_size_t,
 }
 STRUCTS = {
-    'settings': 'Settings', 'count': 'Count', 'mark': 'Mark', 'place': 'Place', 'line': 'Line', 'frame': 'FrameRecord',
-    'block': 'Block', 'value': 'Value', 'range': 'Range', 'selection': 'Selection', 'length': 'Length',
-    'pair_part': 'PairPart', 'part': 'Part', 'dat_summary': 'Summary', 'cpu_range': 'CpuRange',
+    'settings': 'Settings', 'count': 'Count', 'mark': 'Mark', 'place': 'Place', 'frame_part': 'FramePart',
+    'line': 'Line', 'frame': 'FrameRecord', 'block': 'Block', 'value': 'Value', 'range': 'Range',
+    'selection': 'Selection', 'length': 'Length', 'pair_part': 'PairPart', 'part': 'Part', 'dat_summary': 'Summary',
+    'cpu_range': 'CpuRange',
 }
 
 
@@ -74,7 +75,7 @@ class Defaults(Case):
         for order in (0, 1, 255):
             given = _library.call('tfk_default_settings', order)
             self.assertEqual((given.order, given.base), (order, 16))
-        for call in (Trace, Pair, cut, cut_into, join, join_into):
+        for call in (Trace, Pair, cut, cut_into, find_fault, find_frame, join, join_into):
             *_, order, base = inspect.signature(call).parameters.values()
             self.assertEqual((order.name, order.default, base.name, base.default), ('order', 'little', 'base', 16))
 

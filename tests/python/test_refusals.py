@@ -7,7 +7,7 @@ import unittest
 from build import BARE, BIG, HEAD, LIMIT, LITTLE, MARK, dat
 from cases import Case
 from repository import ROOT
-from tufakpeni import Pair, Refusal, Refused, Selection, Trace, TraceDat, cut, cut_into, join, join_into
+from tufakpeni import Pair, Refusal, Refused, Selection, Trace, TraceDat, cut, cut_into, find_fault, join, join_into
 
 FRAME = LITTLE.frame(1, LITTLE.variable(1, 2))
 EVERY = Selection([(0, 65535)])
@@ -52,6 +52,13 @@ class Table(Case):
         refused = Refused(3)
         self.assertEqual(str(refused), 'refused 3: the head differs or is cut short')
         self.assertEqual((refused.number, refused.reason), (3, 'the head differs or is cut short'))
+        self.assertEqual(refused.where, '')
+        self.assertEqual(str(pickle.loads(pickle.dumps(refused))), str(refused))
+
+    def test_text_with_a_place(self):
+        refused = Refused(8, 'in frame 3')
+        self.assertEqual(str(refused), 'refused 8 in frame 3: a block letter other than R, M, V')
+        self.assertEqual((refused.number, refused.where), (8, 'in frame 3'))
         self.assertEqual(str(pickle.loads(pickle.dumps(refused))), str(refused))
 
 
@@ -120,6 +127,7 @@ class Arguments(Case):
     # Each call that takes a byte order and a base, of one file.
     CALLS = [
         Trace,
+        find_fault,
         lambda file, *settings: cut(file, EVERY, *settings),
         lambda file, *settings: cut_into(bytearray(100), file, EVERY, *settings),
         lambda file, *settings: join(file, file, *settings),

@@ -3,7 +3,8 @@ import unittest
 
 from build import BIG, LITTLE, MARK
 from cases import Case
-from tufakpeni import Memory, Pair, Registers, Selection, Trace, Variable, _library, cut, cut_into, join, join_into
+from tufakpeni import (
+    Memory, Pair, Registers, Selection, Trace, Variable, _library, cut, cut_into, find_fault, join, join_into)
 
 BOTH = (LITTLE, BIG)
 BASES = (10, 16)
@@ -44,11 +45,10 @@ def files():
 
 
 class Files(Case):
-    # The library's questions about one trace, and what they are asked beside it.
+    # The library's questions about one trace that read all of it, and what they are asked beside it.
     QUESTIONS = {
         'frame_count': (), 'end_mark': (), 'frame_table': ((_library.FrameRecord * 4)(), 4), 'line_place': (0,),
-        'frame_place': (0,), 'block_record': (0, 0), 'registers_place': (0,), 'memory_place': (0, 7),
-        'variable': (0, 1),
+        'block_record': (0, 0), 'registers_place': (0,), 'memory_place': (0, 7), 'variable': (0, 1),
     }
 
     def test_every_call(self):
@@ -76,6 +76,8 @@ class Files(Case):
         for number, file, opening, (order, base) in files():
             for name, arguments in self.QUESTIONS.items():
                 self.asked(number, name, order, base, [file], arguments)
+            # A frame's place is refused for the blocks of that frame.
+            self.asked(number, 'frame_place', order, base, [file], (find_fault(file, order, base).frame,))
             for pair in ((file, opening), (opening, file)):
                 self.asked(number, 'pair_place', order, base, pair, (0,))
                 self.asked(number, 'pair_variable', order, base, pair, (0, 1))

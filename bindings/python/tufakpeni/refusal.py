@@ -33,16 +33,23 @@ class Refusal(enum.IntEnum):
     SECOND_REGISTERS = 24, 'a second `R` block in a frame'
 
 
-class Refused(Exception):
-    """A call was refused: `number` as in the table, `reason` in words."""
+# What the blocks of a frame may be refused with.
+OF_BLOCKS = (Refusal.BAD_LETTER, Refusal.BLOCK_PAST_DATA, Refusal.NO_REGISTER_SIZE, Refusal.SECOND_REGISTERS)
 
-    def __init__(self, number):
-        super().__init__(number)
+
+class Refused(Exception):
+    """A call was refused: `number` as in the table, `reason` in words; `where` says in which frame, in words too, and is
+    empty where that is not known."""
+
+    def __init__(self, number, where=''):
+        super().__init__(number, where)
         self.number = Refusal(number)
         self.reason = self.number.reason
+        self.where = where
 
     def __str__(self):
-        return f'refused {self.number:d}: {self.reason}'
+        place = self.where and f' {self.where}'
+        return f'refused {self.number:d}{place}: {self.reason}'
 
 
 @contextlib.contextmanager
