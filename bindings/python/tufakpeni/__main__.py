@@ -1,11 +1,17 @@
 """The command: shows a GDB trace or a trace.dat header as text."""
 import argparse
+import mmap
+import os
 import signal
+import stat
 import sys
 
 from . import view
 from ._library import BASES, ORDERS, LibraryMissing, LibraryUnfit
 from .dat import MAGIC, TraceDat
+from .description import opening_end
+from .fault import find_fault
+from .found import find_frame
 from .refusal import Refusal, Refused
 from .trace import Trace
 
@@ -31,35 +37,68 @@ def arguments(words=None):
     parser.add_argument('--blocks', action='store_true', help="the frames' blocks, with the bytes of memory")
     parser.add_argument('--registers', action='store_true', help="the frames' registers, as bytes")
     parser.add_argument('--variables', action='store_true', help="the frames' variables")
-    parser.add_argument('--frame', type=int, metavar='N', help='of frame N only')
+    parser.add_argument('--frame', type=int, metavar='N', help='of frame N only, without a reading of the whole file')
     parser.add_argument('--dat', action='store_true', help='read the file as trace.dat whatever it starts with')
     return parser.parse_args(words)
 
 
-def shown_trace(trace, chosen):
+def contents(file, chosen):
+    """The file's bytes. Where one frame is asked for they are mapped if they can be, so that little of them is read."""
+    status = os.fstat(file.fileno())
+    if chosen.frame is not None and stat.S_ISREG(status.st_mode) and status.st_size:
+        return mmap.mmap(file.fileno(), 0, access=mmap.ACCESS_READ)
+    # One byte over the limit is enough to be refused for it.
+    return file.read(LIMIT + 1)
+
+
+def shown(chosen, description, show_frames, frames):
     """The lines of text that the arguments ask for."""
     details = [show for show in (view.blocks, view.registers, view.variables) if getattr(chosen, show.__name__)]
     framed = details or chosen.frames or chosen.frame is not None
-    frames = trace if chosen.frame is None else [trace.frame(chosen.frame)]
-    yield from view.size(trace)
+    yield from view.size(description)
     if chosen.lines or not framed:
-        yield from view.lines(trace)
+        yield from view.lines(description)
     if framed or not chosen.lines:
-        yield from view.frames(trace, frames, details)
+        yield from show_frames(frames, details)
+
+
+def write(lines):
+    sys.stdout.writelines(line + '\n' for line in lines)
 
 
 def show(data, chosen):
     if chosen.dat or data[:len(MAGIC)] == MAGIC:
         with TraceDat(data) as header:
-            sys.stdout.writelines(line + '\n' for line in view.dat(header))
+            write(view.dat(header))
+    elif chosen.frame is not None:
+        with find_frame(data, chosen.frame, chosen.order, chosen.base) as frame:
+            write(shown(chosen, frame.description, view.single, frame))
     else:
-        with Trace(data, chosen.order, chosen.base) as trace:
-            sys.stdout.writelines(line + '\n' for line in shown_trace(trace, chosen))
+        show_trace(data, chosen)
+
+
+def show_trace(data, chosen):
+    """A trace, or the front of one that is damaged."""
+    try:
+        trace = Trace(data, chosen.order, chosen.base)
+    except Refused:
+        show_front(data, chosen)
+    else:
+        with trace:
+            write(shown(chosen, trace, view.whole, trace))
+
+
+def show_front(data, chosen):
+    """What stands ahead of the fault, which is then raised."""
+    fault = find_fault(data, chosen.order, chosen.base)
+    with Trace(memoryview(data)[:fault.place], chosen.order, chosen.base) as trace:
+        write(shown(chosen, trace, view.front, trace))
+    raise fault.refused()
 
 
 def register_size(data, base):
     """The size of a register block by the opening alone; None where the opening says none in this base."""
-    opening = data[:data.find(b'\n\n') + len(b'\n\n')]
+    opening = memoryview(data)[:opening_end(data)]
     try:
         with Trace(opening, base=base) as trace:
             return trace.register_size
@@ -82,8 +121,7 @@ def main():
     chosen = arguments()
     try:
         with open(chosen.file, 'rb') as file:
-            # One byte over the limit is enough to be refused for it.
-            data = file.read(LIMIT + 1)
+            data = contents(file, chosen)
         show(data, chosen)
     except Refused as refused:
         sys.stdout.flush()

@@ -45,9 +45,25 @@ def record(frame):
     return f'frame {frame.number}: tracepoint {frame.tracepoint}, {frame.size} bytes at {frame.place}, {registers}'
 
 
-def frames(trace, chosen, details):
-    """The chosen frames, each with what the functions `details` show of it."""
+def whole(trace, details):
+    """All frames of a trace, each with what the functions `details` show of it."""
     yield f'frames {len(trace)}, {"then the end mark" if trace.marked else "no end mark"}'
+    yield from frames(trace, details)
+
+
+def front(trace, details):
+    """The same of the sound frames at the front of a damaged file."""
+    yield f'frames {len(trace)} up to the fault'
+    yield from frames(trace, details)
+
+
+def single(frame, details):
+    """The same of a frame that was found by its number."""
+    yield f'frame {frame.number} by {frame.heads} frame head{"s" if frame.heads > 1 else ""}'
+    yield from frames([frame], details)
+
+
+def frames(chosen, details):
     for frame in chosen:
         yield '  ' + record(frame)
         for detail in details:
