@@ -2,7 +2,8 @@
 
 They are read as saved, in the base that holds where none is said, and every line, frame, block, register byte, memory
 byte and variable is compared, and whether the end mark is there. Three are refused: two are compared up to where they
-are broken, the third without the register blocks that its frames have twice."""
+are broken, the third without the register blocks that its frames have twice. Each frame is also asked for by its number,
+in the files as they were saved: so the sound frames of the refused ones are found too."""
 import collections
 import hashlib
 import json
@@ -12,7 +13,7 @@ import sys
 
 import raw_file
 from report import refusal, same
-from tufakpeni import Memory, Pair, Refusal, Registers, Trace, Variable
+from tufakpeni import Fault, Memory, Pair, Refusal, Registers, Trace, Variable, find_fault, find_frame
 
 HERE = pathlib.Path(__file__).parent
 FOLDER = HERE / 'gdb'
@@ -22,16 +23,24 @@ MARK = bytes(4)
 
 # The files that are refused as saved. All others are read.
 BROKEN = {
-    'circular': Refusal.BAD_LETTER,     # the frame that gdbserver broke starts with a 00 where a letter should be
-    'raw': Refusal.SECOND_REGISTERS,    # gdbserver was told to collect registers twice in a frame
-    'zeronum': Refusal.BAD_MARK,        # a head of number 0, with frames behind it
+    # the frame that gdbserver broke starts with a 00 where a letter should be; gdb reads the five frames before it
+    'circular': Fault(5, 29_678, Refusal.BAD_LETTER),
+    # gdbserver was told to collect registers twice in a frame
+    'raw': Fault(0, raw_file.OPENING, Refusal.SECOND_REGISTERS),
+    # a head of number 0, with frames behind it
+    'zeronum': Fault(0, 16_913, Refusal.BAD_MARK),
+}
+
+# What each frame of these is refused with where it is asked for by its number, None where it is found. The size in the
+# head that gdbserver broke leads to two bytes of 0.
+BY_NUMBER = {
+    'circular': [None] * 5 + [Refusal.BAD_LETTER, Refusal.BAD_MARK],
+    'raw': [Refusal.SECOND_REGISTERS, None] * 3 + [None, Refusal.NOT_FOUND],
+    'zeronum': [Refusal.BAD_MARK],
 }
 
 # gdb failed half way and wrote no mark.
 UNMARKED = {'resave'}
-
-# The head of the frame that gdbserver broke: gdb reads the five frames before it.
-CIRCULAR_BROKEN_AT = 29_678
 
 # Where variable 2 is collected, changed and collected again: by frame, its values in the order of its blocks.
 TWO_VALUES = {
@@ -50,6 +59,11 @@ def rows(name, kind):
     return json_lines(file) if file.exists() else []
 
 
+def frame_rows(name):
+    """What gdb reads of each frame."""
+    return [row for row in rows(name, 'gdb') if 'frame' in row]
+
+
 def json_lines(file):
     return [json.loads(line) for line in file.read_text().splitlines()]
 
@@ -58,6 +72,11 @@ def decimal(file):
     """The file with its R line, which gdb writes first, in decimal."""
     line, rest = file[HEAD:].split(b'\n', 1)
     return file[:HEAD] + b'R %d\n' % int(line[len('R '):], 16) + rest
+
+
+def broken_by(name):
+    """What a file is refused with as saved; None where it is read."""
+    return BROKEN[name].refusal if name in BROKEN else None
 
 
 def shape(block):
@@ -131,14 +150,12 @@ def compare_variables(trace, expected):
             same(refusal(frame.variable, number), Refusal.NOT_FOUND, f'frame {frame.number}')
 
 
-def test_read(report, name, file):
-    """A file that is read, or a part of one, against gdb."""
-    expected = [row for row in rows(name, 'gdb') if 'frame' in row]
-    trace = Trace(file, FACTS[name]['order'])
+def test_read(report, name, trace, expected, how=''):
+    """A trace, or the frames of one that are found, against what gdb reads of them."""
     for what, compare in (('frames', compare_frames), ('memory', compare_memory), ('variables', compare_variables)):
-        with report.case(f'{name}: {what}'):
+        with report.case(f'{name}: {what}{how}'):
             compare(trace, expected)
-    with report.case(f'{name}: registers'):
+    with report.case(f'{name}: registers{how}'):
         compare_registers(trace, rows(name, 'regs'))
 
 
@@ -149,7 +166,50 @@ def test_whole(report, name, file, facts):
         compare_description(trace, facts)
     with report.case(f'{name}: the end mark'):
         same(trace.marked, name not in UNMARKED)
-    test_read(report, name, file)
+    test_read(report, name, trace, frame_rows(name))
+
+
+def record(frame):
+    """All that is known of a frame."""
+    return (frame.number, frame.tracepoint, frame.place, frame.size, frame.registers_place, bytes(frame.data), frame.blocks)
+
+
+def test_by_number(report, name, saved):
+    """Each frame of a file that is read, found by its number: it is the table's, by as many heads as there are to it."""
+    order = FACTS[name]['order']
+    trace = Trace(saved, order)
+    with report.case(f'{name}: each frame by its number'):
+        found = [find_frame(saved, n, order) for n in range(len(trace))]
+        same([record(frame) for frame in found], [record(frame) for frame in trace])
+        same([frame.heads for frame in found], list(range(1, len(trace) + 1)), 'heads')
+        same(refusal(find_frame, saved, len(trace), order), Refusal.NOT_FOUND)
+
+
+class Found:
+    """Frames found by their numbers in a file that is refused, and its lines, as a trace has them."""
+
+    def __init__(self, saved, order, numbers):
+        self.frames = [find_frame(saved, n, order) for n in numbers]
+        self.lines = self.frames[0].description.lines
+
+    def __iter__(self):
+        return iter(self.frames)
+
+
+def test_damaged(report, name, saved):
+    """A file that is refused, as it was saved: where its fault is, and each frame by its number. Those that are found are
+    what gdb reads."""
+    order, expected = FACTS[name]['order'], BY_NUMBER[name]
+    with report.case(f'{name}: where it is broken'):
+        same(find_fault(saved, order), BROKEN[name])
+    with report.case(f'{name}: each frame by its number'):
+        same([refusal(find_frame, saved, n, order) for n in range(len(expected))], expected)
+    numbers = [n for n, number in enumerate(expected) if number is None]
+    if numbers:
+        found = Found(saved, order, numbers)
+        with report.case(f'{name}: heads'):
+            same([frame.heads for frame in found], [n + 1 for n in numbers])
+        test_read(report, name, found, [frame_rows(name)[n] for n in numbers], ' by number')
 
 
 def test_saved(report, name, saved):
@@ -160,7 +220,7 @@ def test_saved(report, name, saved):
         same(saved[HEAD:].split(b'\n', 1)[0].decode(), facts['register_line'])
         same(saved.endswith(MARK), name not in UNMARKED, 'four bytes of 0')
     with report.case(f'{name}: as saved'):
-        same(refusal(Trace, saved, facts['order']), BROKEN.get(name))
+        same(refusal(Trace, saved, facts['order']), broken_by(name))
     with report.case(f'{name}: in base 10'):
         # Every R line here has a letter among its digits.
         same(refusal(Trace, saved, facts['order'], 10), Refusal.BAD_LINE)
@@ -177,11 +237,11 @@ def test_decimal(report, name, saved, sound):
     """The file with its R line in decimal. In base 10 it is what it was; `sound` is the part that can be compared."""
     order = FACTS[name]['order']
     with report.case(f'{name}: in decimal and in base 10'):
-        same(refusal(Trace, decimal(saved), order, 10), BROKEN.get(name))
+        same(refusal(Trace, decimal(saved), order, 10), broken_by(name))
         same(contents(Trace(decimal(sound), order, 10)), contents(Trace(sound, order)))
     with report.case(f'{name}: in decimal, and nothing said'):
         # As hexadecimal the number is larger, and no register block has room. Without such a block all is as it was.
-        expected = Refusal.BLOCK_PAST_DATA if rows(name, 'regs') else BROKEN.get(name)
+        expected = Refusal.BLOCK_PAST_DATA if rows(name, 'regs') else broken_by(name)
         same(refusal(Trace, decimal(saved), order), expected)
 
 
@@ -214,7 +274,7 @@ def test_two_values(report):
             same({n: pair for n, pair in found.items() if pair}, values)
             later = {n: pair[1] for n, pair in values.items()}
             same({n: trace.frame(n).variable(2) for n in values}, later)
-            shown = {row['frame']: row['tsv'] for row in rows(name, 'gdb') if 'frame' in row}
+            shown = {row['frame']: row['tsv'] for row in frame_rows(name)}
             same({n: shown[n][variable_names(trace)[2]] for n in values}, later)
             same({n: Pair(file, file, FACTS[name]['order']).variable(len(trace) + n, 2) for n in values}, later)
 
@@ -248,13 +308,11 @@ def test_second_registers(report, saved, sound):
 
 def sound_part(name, saved):
     """The whole file, and of a refused one what gdb reads too."""
-    if name == 'circular':
-        return saved[:CIRCULAR_BROKEN_AT]
     if name == 'raw':
         return raw_file.registers_once(saved)
     if name == 'zeronum':
-        return saved[:saved.index(b'\n\n') + len(b'\n\n') + len(MARK)]
-    return saved
+        return saved[:BROKEN[name].place + len(MARK)]
+    return saved[:BROKEN[name].place] if name in BROKEN else saved
 
 
 def test_file(report, name):
@@ -262,12 +320,13 @@ def test_file(report, name):
     sound = sound_part(name, saved)
     test_saved(report, name, saved)
     test_decimal(report, name, saved, sound)
+    (test_damaged if name in BROKEN else test_by_number)(report, name, saved)
     if name == 'zeronum':
         test_zero_numbers(report, sound)
     elif name == 'raw':
         test_second_registers(report, saved, sound)
-    elif name in BROKEN:
-        test_read(report, name, sound)
+    elif name == 'circular':
+        test_read(report, name, Trace(sound), frame_rows(name))
     else:
         test_whole(report, name, saved, FACTS[name])
 
