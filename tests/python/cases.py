@@ -1,5 +1,4 @@
-"""What the tests share: a check of a refusal's number, maps and addresses, and a note of the questions that the library is
-asked."""
+"""What the tests share: a check of a refusal's number, maps and addresses, and a note of what the library is asked."""
 import contextlib
 import mmap
 import tempfile

@@ -1,6 +1,6 @@
 #!/usr/bin/env python3
-"""Writes samples/damaged.tf to standard output: a little-endian trace of four frames with one bit turned over in frame 2,
-so that the letter of its second block is a `W`. All else is sound."""
+"""Writes samples/damaged.tf to standard output: a little-endian trace of four frames with one bit turned over in
+frame 2, so that the letter of its second block is a `W`. All else is sound."""
 import sys
 
 from build import LITTLE, MARK

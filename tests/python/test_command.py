@@ -15,9 +15,10 @@ from repository import EXPECTED, MODULE, ROOT
 from tufakpeni import Refused, __main__ as program
 
 
-def run(*words, **given):
-    environment = {**os.environ, 'PYTHONPATH': str(MODULE)}
-    return subprocess.run([sys.executable, *words], env=environment, cwd=ROOT, capture_output=True, text=True, **given)
+def run(*words, stderr=subprocess.PIPE, **given):
+    environment = {**os.environ, 'PYTHONPATH': str(MODULE), 'PYTHONUNBUFFERED': ''}
+    return subprocess.run([sys.executable, *words], env=environment, cwd=ROOT, stdout=subprocess.PIPE, stderr=stderr,
+                          text=True, **given)
 
 
 def command(*words, **given):
@@ -145,8 +146,7 @@ class Command(Shown):
         for words, text in (
                 ([self.made(b'')], 'refused 3: the head differs or is cut short'),
                 ([self.made(bytes(LIMIT + 2))], "refused 1: a file, or a join's result, is longer than 67,108,864 bytes"),
-                ([self.made(LITTLE.trace(['R x'], LITTLE.frame(1, b'x')))],
-                 'refused 5: an ended `R ` line breaks its form in the chosen base, or a second `R ` or `status ` line'),
+                ([self.made(LITTLE.trace(['tp'] * 3)[:-1])], 'refused 4: the description has no empty line'),
                 ([self.made(b'\x17\x08\x44')], 'refused 14: a trace.dat field or named piece runs past the file'),
                 (['samples/board.tf', '--dat'],
                  'refused 15: a trace.dat fixed string, flag, long size or page size is wrong')):
@@ -167,12 +167,13 @@ class OneFrame(Shown):
 
     def test_record(self):
         self.prints('register blocks of 776 bytes: `R 308` in base 16\nframe 4 by 5 frame heads\n'
-                    '  frame 4: tracepoint 3, 15 bytes at 2713, no registers\n', '', 0, 'samples/board.tf', '--frame', '4')
+                    '  frame 4: tracepoint 3, 15 bytes at 2713, no registers\n', '', 0,
+                    'samples/board.tf', '--frame', '4')
 
     def test_lines(self):
         lines, _, _ = (EXPECTED / 'board.txt').read_text().partition('frames ')
-        self.prints(f'{lines}frame 0 by 1 frame head\n  frame 0: tracepoint 1, 817 bytes at 239, registers at 240\n', '', 0,
-                    'samples/board.tf', '--frame', '0', '--lines')
+        frame = 'frame 0: tracepoint 1, 817 bytes at 239, registers at 240'
+        self.prints(f'{lines}frame 0 by 1 frame head\n  {frame}\n', '', 0, 'samples/board.tf', '--frame', '0', '--lines')
 
     def test_a_trace_that_gdb_saved(self):
         self.shows('gdb-frame-2.txt', 'samples/gdb.tf', '--blocks', '--variables', '--frame', '2')
@@ -183,8 +184,9 @@ class OneFrame(Shown):
 
     def test_a_damaged_file(self):
         """A frame behind the fault is shown as it is; of the frame at fault its own blocks are told of."""
-        self.shows('damaged-frame-3.txt', 'samples/damaged.tf', '--blocks', '--registers', '--variables', '--frame', '3')
-        self.prints('', 'refused 8 in frame 2: a block letter other than R, M, V\n', 1, 'samples/damaged.tf', '--frame', '2')
+        file = 'samples/damaged.tf'
+        self.shows('damaged-frame-3.txt', file, '--blocks', '--registers', '--variables', '--frame', '3')
+        self.prints('', 'refused 8 in frame 2: a block letter other than R, M, V\n', 1, file, '--frame', '2')
 
     def test_no_such_frame(self):
         for n in ('6', '-1', str(2 ** 63), str(2 ** 64)):
@@ -197,7 +199,8 @@ class OneFrame(Shown):
         for data, text in ((b'', 'refused 3: the head differs or is cut short'),
                            (bytes(LIMIT + 2), "refused 1: a file, or a join's result, is longer than 67,108,864 bytes"),
                            (BARE + bytes(5), 'refused 18: a bad end mark'),
-                           (BARE + LITTLE.frame(1, b'R'), 'refused 10 in frame 0: an `R` block where no R line was given')):
+                           (BARE + LITTLE.frame(1, b'R'),
+                            'refused 10 in frame 0: an `R` block where no R line was given')):
             self.prints('', text + '\n', 1, self.made(data), '--frame', '0')
 
     def test_it_is_mapped(self):
@@ -222,6 +225,10 @@ class Damaged(Shown):
         self.prints((EXPECTED / 'damaged.txt').read_text(),
                     'refused 8 in frame 2, whose head stands at byte 78: a block letter other than R, M, V\n', 1,
                     'samples/damaged.tf', '--lines', '--blocks', '--registers', '--variables')
+
+    def test_the_fault_comes_last(self):
+        *_, frame, fault = command('samples/damaged.tf', stderr=subprocess.STDOUT).stdout.splitlines()
+        self.assertEqual((frame[:10], fault[:9]), ('  frame 1:', 'refused 8'))
 
     def test_parts(self):
         fault = 'refused 8 in frame 2, whose head stands at byte 78: a block letter other than R, M, V\n'
@@ -290,8 +297,8 @@ class Damaged(Shown):
         self.assertEqual(str(caught.exception), 'refused 8 in frame 80000, whose head stands at byte 720,013: '
                                                 'a block letter other than R, M, V')
         self.assertEqual(printed.getvalue().count('\n  frame '), count)
-        # One of the whole file; four for each doubling up to the fault, and four; the table's two; one of the R line.
-        self.assertLessEqual(len(asked), 1 + 4 * count.bit_length() + 4 + 2 + 1)
+        # One of the whole file; four for each doubling up to the fault, and two; the table's two; one of the R line.
+        self.assertLessEqual(len(asked), 1 + 4 * count.bit_length() + 2 + 2 + 1)
 
 
 class Example(Case):

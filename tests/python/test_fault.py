@@ -1,4 +1,4 @@
-"""Where a damaged file is at fault: the earliest frame, the place of its head, the number, and the questions it takes."""
+"""Where a damaged file is at fault: the earliest frame, the place of its head, the number, and what it takes to find."""
 import itertools
 import unittest
 
@@ -11,9 +11,9 @@ BASES = (10, 16)
 
 
 def most(sound):
-    """The most questions that a fault behind so many sound frames takes: one of the whole file, two at each doubling and
-    at each halving, and one for the place."""
-    return 4 * sound.bit_length() + 4
+    """The most questions that a fault behind so many sound frames takes: one of the whole file, one for the place, and
+    two at each of the numbers that are tried, of which half are doublings and half halvings."""
+    return 2 + 2 * max(1, 2 * sound.bit_length())
 
 
 def faulty(made):

@@ -10,7 +10,7 @@ import unittest
 from build import BARE, BIG, HEAD, LIMIT, LITTLE, MARK
 from cases import Case, questions
 from repository import ROOT
-from tufakpeni import Memory, Refused, Trace, Variable, find_frame
+from tufakpeni import Memory, Refusal, Refused, Trace, Variable, find_frame
 
 BOTH = (LITTLE, BIG)
 BASES = (10, 16)
@@ -155,8 +155,8 @@ class Damaged(Case):
     def test_where_a_head_should_start(self):
         """Bytes that are no head, behind two frames."""
         ends = {6: [b'\0', b'\1', b'\0\1', b'\1\0\0', b'\1\0\0\0', b'\0\1\0\0\0', b'RRRRR'],
-                18: [bytes(2), bytes(3), b'\0\0\1', b'\0\0\1\0', b'\0\0\0\1', bytes(5), MARK + b'\1', bytes(6), MARK * 2,
-                     MARK + b'RRRR', b'\0\0' + b'\xff' * 4],
+                18: [bytes(2), bytes(3), b'\0\0\1', b'\0\0\1\0', b'\0\0\0\1', bytes(5), MARK + b'\1', bytes(6),
+                     MARK * 2, MARK + b'RRRR', b'\0\0' + b'\xff' * 4],
                 12: [b'', MARK]}
         for made in BOTH:
             a, b, *_ = frames(made)
@@ -174,8 +174,7 @@ class Damaged(Case):
         for n, words in ((1, 'refused 8 in frame 1: a block letter other than R, M, V'),
                          (2, "refused 9 in frame 2: a block runs past its frame's data"),
                          (3, 'refused 24 in frame 3: a second `R` block in a frame'),
-                         (4, 'refused 12: no such line, frame, block, CPU; no covering block; no such register block or '
-                             'variable')):
+                         (4, f'refused 12: {Refusal.NOT_FOUND.reason}')):
             self.assertRaisesRegex(Refused, f'^{words}$', find_frame, file, n)
         self.assertRaisesRegex(Refused, '^refused 10 in frame 0: ', find_frame, BARE + LITTLE.frame(1, b'R'), 0)
         self.assertRaisesRegex(Refused, "^refused 7: a frame's data runs past the file$", find_frame, file[:-1], 3)
@@ -186,8 +185,8 @@ class Ahead(Case):
     """What is refused ahead of the frames."""
 
     def test_openings(self):
-        for number, file in ((1, bytes(LIMIT + 1)), (3, b''), (3, HEAD[:7]), (3, b'\n\n' + BARE), (4, HEAD), (4, HEAD + b'R x'),
-                             (5, HEAD + b'R x\n'), (5, LITTLE.trace(['R 1', 'R 1'], LITTLE.frame(1)))):
+        for number, file in ((1, bytes(LIMIT + 1)), (3, b''), (3, HEAD[:7]), (3, b'\n\n' + BARE), (4, HEAD),
+                             (4, HEAD + b'R x'), (5, HEAD + b'R x\n'), (5, LITTLE.trace(['R 1', 'R 1'], LITTLE.frame(1)))):
             for n in (0, 1, 2 ** 63):
                 self.refused(number, find_frame, file, n)
 

@@ -3,7 +3,7 @@ import unittest
 from unittest import mock
 
 from build import BARE, BIG, HEAD, LITTLE, MARK
-from cases import Case
+from cases import Case, questions
 from repository import ROOT
 from tufakpeni import Memory, Pair, Registers, Trace, Variable, _library
 
@@ -132,6 +132,12 @@ class Frames(Case):
                              [(0, 65535, 19, 6), (1, 256, 31, 0), (2, 7, 37, 14)])
             self.assertEqual(bytes(trace.frame(0).data), b'RABRCD')
             self.assertEqual(repr(trace.frame(2)), '<frame 2: tracepoint 7, 14 bytes at 37>')
+
+    def test_all_frames_come_from_one_table(self):
+        file = LITTLE.trace([], *(LITTLE.frame(n) for n in range(1, 100)))
+        with questions() as asked:
+            self.assertEqual([frame.tracepoint for frame in Trace(file)], list(range(1, 100)))
+        self.assertEqual([name for name, _ in asked], ['tfk_frame_count', 'tfk_frame_table'])
 
     def test_no_such_frame(self):
         trace = Trace(LITTLE.trace([], LITTLE.frame(1)))

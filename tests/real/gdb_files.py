@@ -2,8 +2,8 @@
 
 They are read as saved, in the base that holds where none is said, and every line, frame, block, register byte, memory
 byte and variable is compared, and whether the end mark is there. Three are refused: two are compared up to where they
-are broken, the third without the register blocks that its frames have twice. Each frame is also asked for by its number,
-in the files as they were saved: so the sound frames of the refused ones are found too."""
+are broken, the third without the register blocks that its frames have twice. Each frame is also asked for by its
+number, in the files as they were saved: so the sound frames of the refused ones are found too."""
 import collections
 import hashlib
 import json
@@ -31,8 +31,8 @@ BROKEN = {
     'zeronum': Fault(0, 16_913, Refusal.BAD_MARK),
 }
 
-# What each frame of these is refused with where it is asked for by its number, None where it is found. The size in the
-# head that gdbserver broke leads to two bytes of 0.
+# What each frame of these is refused with where it is asked for by its number, None where it is found. Behind the frame
+# that gdbserver broke stand two bytes of 0.
 BY_NUMBER = {
     'circular': [None] * 5 + [Refusal.BAD_LETTER, Refusal.BAD_MARK],
     'raw': [Refusal.SECOND_REGISTERS, None] * 3 + [None, Refusal.NOT_FOUND],
@@ -171,11 +171,12 @@ def test_whole(report, name, file, facts):
 
 def record(frame):
     """All that is known of a frame."""
-    return (frame.number, frame.tracepoint, frame.place, frame.size, frame.registers_place, bytes(frame.data), frame.blocks)
+    return (frame.number, frame.tracepoint, frame.place, frame.size, frame.registers_place, bytes(frame.data),
+            frame.blocks)
 
 
 def test_by_number(report, name, saved):
-    """Each frame of a file that is read, found by its number: it is the table's, by as many heads as there are to it."""
+    """Each frame of a file that is read, by its number: it is the table's, found by the heads up to its own."""
     order = FACTS[name]['order']
     trace = Trace(saved, order)
     with report.case(f'{name}: each frame by its number'):
@@ -197,8 +198,8 @@ class Found:
 
 
 def test_damaged(report, name, saved):
-    """A file that is refused, as it was saved: where its fault is, and each frame by its number. Those that are found are
-    what gdb reads."""
+    """A file that is refused, as it was saved: where its fault is, and each frame by its number. Those that are found
+    are what gdb reads."""
     order, expected = FACTS[name]['order'], BY_NUMBER[name]
     with report.case(f'{name}: where it is broken'):
         same(find_fault(saved, order), BROKEN[name])

@@ -10,8 +10,8 @@ has it in decimal must be read so, here and wherever it is cut or joined:
     Trace(data, base=10)
     cut(data, Selection([(1, 1)]), base=10)
 
-One frame by its number, without a reading of the whole file, and so also from a file that is at fault elsewhere; and the
-frames of a damaged file up to its fault:
+One frame by its number, without a reading of the whole file, and so also from a file that is at fault elsewhere; and
+the frames of a damaged file up to its fault:
 
     find_frame(data, 3)
     Trace(memoryview(data)[:find_fault(data).place])

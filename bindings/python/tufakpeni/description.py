@@ -23,8 +23,8 @@ class Line(NamedTuple):
 
 
 def opening_end(file):
-    """Where the opening ends: behind the first empty line, or where the file ends if it has none. No byte is copied, and
-    none behind that line is looked at."""
+    """Where the opening ends: behind the first empty line, or where the file ends if it has none. No byte is copied,
+    and none behind that line is looked at."""
     found = EMPTY_LINE.search(file)
     return found.end() if found else len(file)
 

@@ -31,7 +31,7 @@ def find_fault(data, order='little', base=16):
     """The earliest fault among a file's frames; None where the file is accepted. Byte order and base are as in Trace. A
     file that is refused ahead of its frames, with 1 to 5, raises Refused.
 
-    Some four questions are asked for each doubling of the number of sound frames, and each reads no more than these."""
+    Some four questions are asked for each doubling of the number of sound frames, and none reads more than the file."""
     with flat(data) as file:
         manner = settings(order, base)
         refusal = call('tfk_frame_count', manner, file).refusal

@@ -32,8 +32,8 @@ class Sought(Description):
 
 
 class FoundFrame(Frame, Closing):
-    """A frame that was found by its number. It has what a Frame has, and besides `heads`, the number of frame heads that
-    were read for it. It holds the caller's bytes until it is closed; the parts that it handed out hold them by
+    """A frame that was found by its number. It has what a Frame has, and besides `heads`, the number of frame heads
+    that were read for it. It holds the caller's bytes until it is closed; the parts that it handed out hold them by
     themselves."""
 
     __slots__ = ('heads',)
@@ -54,8 +54,9 @@ class FoundFrame(Frame, Closing):
 def find_frame(data, n, order='little', base=16):
     """Frame n of a GDB trace, a FoundFrame. Byte order and base are as in Trace.
 
-    Of the bytes only the opening, the heads of frames 0 to n and that frame are read. So it costs what these cost, and it
-    is found also where the file is at fault elsewhere. Each call walks over the heads anew: for all frames make a Trace.
+    Of the bytes only the opening, the heads of frames 0 to n and that frame are read. So it costs what these cost, and
+    the frame is found also where the file is at fault elsewhere. Each call walks over the heads anew: for all frames
+    make a Trace.
 
         with find_frame(data, 3) as frame:
             print(frame.tracepoint, frame.heads)"""

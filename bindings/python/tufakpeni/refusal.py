@@ -38,8 +38,8 @@ OF_BLOCKS = (Refusal.BAD_LETTER, Refusal.BLOCK_PAST_DATA, Refusal.NO_REGISTER_SI
 
 
 class Refused(Exception):
-    """A call was refused: `number` as in the table, `reason` in words; `where` says in which frame, in words too, and is
-    empty where that is not known."""
+    """A call was refused: `number` as in the table, `reason` in words; `where` says in which frame, in words too, and
+    is empty where that is not known."""
 
     def __init__(self, number, where=''):
         super().__init__(number, where)
