@@ -91,9 +91,8 @@ def changed(frame, at, data):
     return frame[:at] + data + frame[at + len(data):]
 
 
-def block_faults(made):
-    """Data that are refused as such, by number, where registers have two bytes."""
-    return {8: b'x', 9: b'M' + bytes(9), 24: b'Rab' * 2}
+# Data that are refused as such, by number, where registers have two bytes; in either byte order.
+BLOCK_FAULTS = {8: b'x', 9: b'M' + bytes(9), 24: b'Rab' * 2}
 
 
 class Damaged(Case):
@@ -121,7 +120,7 @@ class Damaged(Case):
     def test_blocks_of_one_frame(self):
         """They count for that frame alone, whether it stands before frame n or behind it."""
         for made in BOTH:
-            for number, data in block_faults(made).items():
+            for number, data in BLOCK_FAULTS.items():
                 for base in BASES:
                     a, b, _, d, e, _ = pieces = frames(made)
                     pieces[2] = made.frame(9, data)
@@ -137,7 +136,7 @@ class Damaged(Case):
     def test_size_of_an_earlier_frame(self):
         for made in BOTH:
             a, b, c, d, e, f = frames(made)
-            for size in (2 ** 32 - 1, len(b'' .join((c, d, e, f))) + 1):
+            for size in (2 ** 32 - 1, len(c + d + e + f) + 1):
                 past = changed(b, 2, made.number(size, 4))
                 self.finds(made, [a, past, c, d, e, f], a, 7, 7, 7, 7, 7, 7, 7)
             # A size that ends where another frame does: the heads behind are where they were.
@@ -232,25 +231,29 @@ class Unread(Case):
     def test_every_other_byte_is_changed(self):
         chance, refusals = random.Random(14), collections.Counter()
         for made in BOTH:
-            faulty = [made.frame(9, data) for data in block_faults(made).values()]
+            past = made.number(9, 2) + b'\x7f' * 4
+            faulty = [made.frame(9, data) for data in BLOCK_FAULTS.values()]
             for _ in range(60):
-                pieces = chance.choices(frames(made) + faulty, k=chance.randrange(1, 9))
+                pieces = chance.choices(frames(made) * 3 + [*faulty, past], k=chance.randrange(1, 9))
                 file = made.trace(LINES, *pieces) + chance.choice(self.TAILS)
                 for n in range(len(pieces) + 1):
                     found = self.outcome(file, n, made.order)
-                    other = otherwise(chance, file, read(pieces, n))
+                    # At a size past the file the walk ends.
+                    last = pieces.index(past) if past in pieces[:n + 1] else n
+                    other = otherwise(chance, file, read(pieces, last))
                     self.assertEqual(self.outcome(other, n, made.order), found)
                     refusals[found if isinstance(found, int) else 0] += 1
         # The found ones among them, as 0, and every refusal that can be met.
-        self.assertEqual(refusals.keys(), {0, 6, 8, 9, 12, 18, 24})
+        self.assertEqual(refusals.keys(), {0, 6, 7, 8, 9, 12, 18, 24})
 
-    # A map whose file was cut behind the frame: who reads there is killed. The argument is what reads it.
+    # A map whose file was cut behind its first page: who reads there is killed. The argument is what reads it.
     CUT = '''
-import mmap, sys, tempfile
+import mmap, resource, sys, tempfile
 from build import LITTLE
 import repository
 from tufakpeni import Trace, find_frame
 
+resource.setrlimit(resource.RLIMIT_CORE, (0, 0))
 frame = LITTLE.frame(1, LITTLE.registers(b'ab'), LITTLE.memory(16, b'xyz'))
 with tempfile.TemporaryFile() as file:
     file.write(LITTLE.trace(['R 2'], *[frame] * mmap.PAGESIZE))
