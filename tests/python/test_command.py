@@ -271,6 +271,18 @@ class Damaged(Shown):
                     f'refused {number} in frame {len(sound)}, whose head {stands} at byte {len(front)}: {reason}\n', 1,
                     self.made(front + b''.join(rest)), '--frames')
 
+    def test_settings(self):
+        """A damaged file of the other byte order, its R line in the other base."""
+        words = [self.made(BIG.trace(['R 20'], BIG.frame(1, BIG.registers(bytes(20))), BIG.frame(1, b'x'),
+                                     BIG.frame(2, BIG.variable(1, -3)))), '--order', 'big', '--base', '10']
+        size = 'register blocks of 20 bytes: `R 20` in base 10\n'
+        tried = 'base 10 was tried for the R line; to try the other: --base 16\n'
+        self.prints(f'{size}frames 1 up to the fault\n  frame 0: tracepoint 1, 21 bytes at 20, registers at 21\n',
+                    f'refused 8 in frame 1, whose head stands at byte 41: a block letter other than R, M, V\n{tried}', 1,
+                    *words, '--frames')
+        self.prints(f'{size}frame 2 by 3 frame heads\n  frame 2: tracepoint 2, 13 bytes at 54, no registers\n'
+                    '    variable 1 = -3\n', '', 0, *words, '--variables', '--frame', '2')
+
     def test_real_files(self):
         """Three that gdb saved are at fault, and one is read in the wrong byte order."""
         for words, text in (
