@@ -57,8 +57,8 @@ fn tracepoint(settings: Settings, file: &[u8], n: usize) {
 }
 
 fn frame(settings: Settings, file: &[u8], n: usize) {
-    show::place(gdb_frames::frame_place(settings, file, n));
-    show::bytes(gdb_frames::frame_data(settings, file, n));
+    show::frame(gdb_seek::frame_place(settings, file, n));
+    show::bytes(gdb_seek::frame_data(settings, file, n));
 }
 
 fn block(settings: Settings, file: &[u8], n: usize, k: usize) {

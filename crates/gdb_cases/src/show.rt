@@ -4,6 +4,7 @@ use gdb_data::BlockKind;
 use gdb_data::BlockRecord;
 use gdb_format::LineKind;
 use gdb_frames::PlaceAnswer;
+use gdb_seek::FrameAnswer;
 use libc::STDOUT_FILENO;
 
 pub(crate) fn text(t: &[u8]) {
@@ -61,6 +62,21 @@ pub(crate) fn place(answer: PlaceAnswer) {
     match answer {
         PlaceAnswer::At { place, length } => span(place, length),
         PlaceAnswer::Refused(n) => refused(n),
+    }
+}
+
+// A frame's data, and how many heads were read for it.
+pub(crate) fn frame(answer: FrameAnswer) {
+    match answer {
+        FrameAnswer::At {
+            place,
+            length,
+            heads,
+        } => {
+            span(place, length);
+            number(b" heads ", heads);
+        }
+        FrameAnswer::Refused(n) => refused(n),
     }
 }
 
