@@ -4,6 +4,7 @@ pub mod Marks
 pub mod Registers
 pub mod Variables
 pub mod Tables
+pub mod Found
 pub mod Bases
 pub mod ListingCases
 pub mod Limit
