@@ -69,13 +69,17 @@ described f before line (x ∷ xs) =
 abbrev pub openingRead : Format → List ℕ → ℕ
 openingRead f b = let k = described f [] [] (drop 8 b) in 8 + cond (starts head (take 8 b)) k 0
 
--- at each place that a walk visits six bytes, or as many as stand there; and the data of the frame that it has reached
+-- where a walk looks for a head, six bytes, or as many as stand there
+abbrev pub headPart : ℕ → ℕ × ℕ
+headPart at = (at, 6)
+
+-- the data of the frame that it has reached
 abbrev pub dataPart : Answer Row → List (ℕ × ℕ)
 dataPart (accepted r) = dataIn r ∷ []
 dataPart (refused k) = []
 
 abbrev pub walkParts : Walk → List (ℕ × ℕ)
-walkParts w = map (λ at. (at, 6)) (w .visited) ++ dataPart (w .reached)
+walkParts w = map headPart (w .visited) ++ dataPart (w .reached)
 
 -- what follows on a value; nothing on a refusal
 abbrev pub partsOn : {A : Type 0} → Answer A → (A → List (ℕ × ℕ)) → List (ℕ × ℕ)

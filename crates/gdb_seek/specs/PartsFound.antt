@@ -25,7 +25,7 @@ use Rattle.gdb_read.specs.Steps.{Row}
 use Rattle.gdb_frames.specs.Places.{part}
 use Rattle.gdb_frames.specs.Questions.{dataIn}
 use Rattle.gdb_seek.specs.Walk.{walkTo}
-use Rattle.gdb_seek.specs.Found.{foundIn, frameFound, described, openingRead, partsRead}
+use Rattle.gdb_seek.specs.Found.{foundIn, frameFound, described, openingRead, headPart, partsRead}
 use Rattle.gdb_seek.specs.Stands.{heads-read}
 
 module _ (f : Format) where
@@ -67,11 +67,11 @@ module _ (f : Format) where
 
 -- the parts read of a file with this opening, for the data x, by these places of heads
 abbrev pub PartsAre : List (ℕ × ℕ) → List (List ℕ) → List ℕ → ℕ × ℕ → Type 0
-PartsAre ps ls ats x = ps ≡ (0, length (opening ls)) ∷ (map (λ at. (at, 6)) ats ++ x ∷ [])
+PartsAre ps ls ats x = ps ≡ (0, length (opening ls)) ∷ (map headPart ats ++ x ∷ [])
 
 parts-of : (s : Settings) (b : List ℕ) (n : ℕ) (f : Format) (o : List (List ℕ) × List ℕ) (r : Row) → settingsOf s ≡ accepted f → leb (length b) limit ≡ true
     → openingLines f b ≡ accepted o → walkTo f b n (length (opening (o .0))) .reached ≡ accepted r
-    → partsRead s b n ≡ (0, openingRead f b) ∷ (map (λ at. (at, 6)) (walkTo f b n (length (opening (o .0))) .visited) ++ dataIn r ∷ [])
+    → partsRead s b n ≡ (0, openingRead f b) ∷ (map headPart (walkTo f b n (length (opening (o .0))) .visited) ++ dataIn r ∷ [])
 unfolding partsRead
 parts-of s b n f o r i j k l = rw (i, j, k, l)
 
@@ -95,5 +95,5 @@ parts-found s b n x h e =
       ats,
       heads-read f b n at (r .0) (r .1) ∙ sym (add-one n),
       parts-of s b n f (o .0) (r .0) (y .1) (c .0) (o .1) (r .1)
-          ∙ ap₂ (λ k d. (0, k) ∷ (map (λ at. (at, 6)) ats ++ d ∷ [])) (opening-read f b ls (o .0 .1) h (o .1)) i,
+          ∙ ap₂ (λ k d. (0, k) ∷ (map headPart ats ++ d ∷ [])) (opening-read f b ls (o .0 .1) h (o .1)) i,
     )

@@ -31,7 +31,7 @@ use Rattle.gdb_frames.specs.Nth.{foundBy}
 use Rattle.gdb_frames.specs.Places.{part}
 use Rattle.gdb_frames.specs.Questions.{dataIn}
 use Rattle.gdb_seek.specs.Walk.{beforeEnd, headOrEnd, Walk, goesOn, past, walkTo}
-use Rattle.gdb_seek.specs.Found.{judged, foundBehind, foundIn, frameFound, described, openingRead, dataPart, walkParts, partsOn, partsIn, partsRead, AgreeOn}
+use Rattle.gdb_seek.specs.Found.{judged, foundBehind, foundIn, frameFound, described, openingRead, headPart, dataPart, walkParts, partsOn, partsIn, partsRead, AgreeOn}
 
 -- ---- lists of one length that agree on a front
 
@@ -120,7 +120,7 @@ module _ (f : Format) (b c : List ℕ) (l : length b ≡ length c) where
   -- ---- the walk
 
   abbrev HeadsAgree : List ℕ → Type 0
-  HeadsAgree ats = AgreeOn (map (λ at. (at, 6)) ats) b c
+  HeadsAgree ats = AgreeOn (map headPart ats) b c
 
   walk-alike : (n at : ℕ) → HeadsAgree (walkTo f b n at .visited) → walkTo f b n at ≡ walkTo f c n at
   walk-alike zero at h = rw (place-alike at (h .0))
@@ -151,7 +151,7 @@ module _ (f : Format) (b c : List ℕ) (l : length b ≡ length c) where
   behind-alike : (n : ℕ) (ls : List (List ℕ)) → AgreeOn (walkParts (walkTo f b n (length (opening ls)))) b c → foundBehind f b n ls ≡ foundBehind f c n ls
   behind-alike n ls h =
       let w = walkTo f b n (length (opening ls)) in
-      let q = both (map (λ at. (at, 6)) (w .visited)) (dataPart (w .reached)) h in
+      let q = both (map headPart (w .visited)) (dataPart (w .reached)) h in
       judged-alike (registerSize f ls) w (q .1) ∙ ap (judged f (registerSize f ls) c) (walk-alike n (length (opening ls)) (q .0))
 
 -- ---- the opening

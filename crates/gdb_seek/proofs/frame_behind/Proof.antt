@@ -47,12 +47,6 @@ judged c e =
     ap (λ x. next x (λ u. accepted (dataIn (headMeaning (c .head .given .0 .0)), c .head .given .0 .1 .0))) e
     ∙ judged-by (a .format) (sizeMeaning (a .size)) (a .file .now) (walkTo (a .format) (a .file .now) (a .n) (a .from)) (reached c) (within c)
 
-add-end : tie.Need-add-end
-add-end c = omega (arith, within (search))
-
-slice-aggregate-blocks-from : tie.Need-slice-aggregate-blocks-from
-slice-aggregate-blocks-from c = let start : tie.Start = search in sym (length-take-le _ (start .args .file .now) (within (search)))
-
 returns : tie.Need-returns
 returns c =
     let start : tie.Start = search in
@@ -64,6 +58,12 @@ returns-2 c = let h : tie.After-head = search in judged h (at-case verdictMeanin
 
 returns-3 : tie.Need-returns-3
 returns-3 c = let h : tie.After-head = search in judged h (at-case verdictMeaning (c .enum-told .given .1) (search))
+
+add-end : tie.Need-add-end
+add-end c = omega (arith, within (search))
+
+slice-aggregate-blocks-from : tie.Need-slice-aggregate-blocks-from
+slice-aggregate-blocks-from c = let start : tie.Start = search in sym (length-take-le _ (start .args .file .now) (within (search)))
 
 pub frame-behind-spec : {M : Type 1} → statement M
 frame-behind-spec =
