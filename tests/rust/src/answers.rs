@@ -1,6 +1,6 @@
 //! The second reader's answers in the structs of the C interface: on a refusal every other field is 0.
 
-use crate::c::{self, Block, Count, CpuRange, DatSummary, Length, Line, Mark, PairPart, Place, Value};
+use crate::c::{self, Block, Count, CpuRange, DatSummary, FramePart, Length, Line, Mark, PairPart, Place, Value};
 use crate::reader::{write_fields, Reader, Record};
 use crate::second::dat::{self, Ending, Summary};
 use crate::second::edit::{self, Pair, Selection, TracepointRange, Which};
@@ -27,7 +27,7 @@ macro_rules! answers {
     };
 }
 
-answers! { Count Mark Place Line Block Value Length PairPart DatSummary CpuRange }
+answers! { Count Mark Place FramePart Line Block Value Length PairPart DatSummary CpuRange }
 
 fn answer<T, A: Answer>(result: Result<T, Refusal>, told: impl FnOnce(T) -> A) -> A {
     match result {
@@ -46,9 +46,7 @@ pub const SECOND: Reader = Reader {
     end_mark: |settings, file| answer(read(settings, file), |trace| mark(trace.is_marked())),
     frame_table: |settings, file, records| answer(frame_table(settings, file, records), count),
     line_place: |settings, file, j| answer(read(settings, file).and_then(|trace| trace.line(j)), line),
-    frame_place: |settings, file, n| {
-        answer(read(settings, file).and_then(|trace| trace.frame(n)), |frame| place(frame.data))
-    },
+    frame_place: |settings, file, n| answer(gdb::frame_part(said(settings), file, n, |_| ()), frame_part),
     block_record: |settings, file, n, k| answer(read(settings, file).and_then(|trace| trace.block(n, k)), block),
     registers_place: |settings, file, n| answer(read(settings, file).and_then(|trace| trace.registers(n)), place),
     memory_place: |settings, file, n, address| {
@@ -82,6 +80,14 @@ pub fn read(settings: c::Settings, file: &[u8]) -> Result<Trace<'_>, Refusal> {
     Trace::read(said(settings), file)
 }
 
+/// The parts of a file that are read for the data of frame n.
+pub fn parts_read(settings: c::Settings, file: &[u8], n: usize) -> Vec<Part> {
+    let mut parts = Vec::new();
+    // The parts are told whether or not there is an answer.
+    let _ = gdb::frame_part(said(settings), file, n, |part| parts.push(part));
+    parts
+}
+
 fn count(count: usize) -> Count {
     Count { refusal: 0, count }
 }
@@ -100,6 +106,10 @@ fn value(value: i64) -> Value {
 
 fn place(part: Part) -> Place {
     Place { refusal: 0, place: part.place, length: part.length }
+}
+
+fn frame_part((data, heads): (Part, usize)) -> FramePart {
+    FramePart { refusal: 0, place: data.place, length: data.length, heads }
 }
 
 fn cpu_range(range: dat::CpuRange) -> CpuRange {

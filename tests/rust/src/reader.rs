@@ -1,7 +1,8 @@
 //! What is compared: every call of the C interface, with slices for pointers.
 
 use crate::c::{
-    Block, Count, CpuRange, DatSummary, Frame, Length, Line, Mark, PairPart, Place, Selection, Settings, Value,
+    Block, Count, CpuRange, DatSummary, Frame, FramePart, Length, Line, Mark, PairPart, Place, Selection, Settings,
+    Value,
 };
 
 /// A frame record as the words that it fills, so that its padding is compared where it stays unchanged.
@@ -39,7 +40,7 @@ pub struct Reader {
     pub end_mark: fn(Settings, &[u8]) -> Mark,
     pub frame_table: fn(Settings, &[u8], &mut [Record]) -> Count,
     pub line_place: fn(Settings, &[u8], usize) -> Line,
-    pub frame_place: fn(Settings, &[u8], usize) -> Place,
+    pub frame_place: fn(Settings, &[u8], usize) -> FramePart,
     pub block_record: fn(Settings, &[u8], usize, usize) -> Block,
     pub registers_place: fn(Settings, &[u8], usize) -> Place,
     pub memory_place: fn(Settings, &[u8], usize, u64) -> Place,

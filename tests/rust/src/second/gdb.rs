@@ -1,4 +1,5 @@
-//! GDB trace files: the check of a whole file, and every question about a checked one.
+//! GDB trace files: the check of a whole file, every question about a checked one, and the data of a frame by the parts
+//! alone that are read for it.
 
 use super::{Base, Order, Part, Refusal, Settings, MAX_LENGTH};
 use std::mem;
@@ -87,7 +88,9 @@ struct Opening {
 }
 
 impl Opening {
-    fn read(base: Base, file: &[u8]) -> Result<Self, Refusal> {
+    /// Each part is told as it is read: the head, then line by line.
+    fn read(base: Base, file: &[u8], tell: &mut impl FnMut(Part)) -> Result<Self, Refusal> {
+        tell(up_to(HEAD.len(), 0, file));
         if !file.starts_with(HEAD) {
             return Err(Refusal::BadHead);
         }
@@ -96,7 +99,9 @@ impl Opening {
         let mut has_status = false;
         loop {
             let rest = &file[place..];
-            let length = rest.iter().position(|&byte| byte == LINE_END).ok_or(Refusal::NoEmptyLine)?;
+            let end = rest.iter().position(|&byte| byte == LINE_END);
+            tell(Part { place, length: end.map_or(rest.len(), |end| end + 1) });
+            let length = end.ok_or(Refusal::NoEmptyLine)?;
             let line = &rest[..length];
             place += length + 1;
             if line.is_empty() {
@@ -128,14 +133,19 @@ pub struct Trace<'a> {
 impl<'a> Trace<'a> {
     /// Checks the whole file; the first fault met decides.
     pub fn read(settings: Settings, file: &'a [u8]) -> Result<Self, Refusal> {
+        let mut trace = Trace::open(settings, file, &mut |_| ())?;
+        (trace.frame_count, trace.frames_end) = trace.check_frames()?;
+        Ok(trace)
+    }
+
+    /// The file read as far as its opening, each part told as it is read; none of its frames is counted.
+    fn open(settings: Settings, file: &'a [u8], tell: &mut impl FnMut(Part)) -> Result<Self, Refusal> {
         let (order, base) = settings.check()?;
         if file.len() > MAX_LENGTH {
             return Err(Refusal::TooLong);
         }
-        let opening = Opening::read(base, file)?;
-        let mut trace = Trace { file, order, opening, frame_count: 0, frames_end: opening.length };
-        (trace.frame_count, trace.frames_end) = trace.check_frames()?;
-        Ok(trace)
+        let opening = Opening::read(base, file, tell)?;
+        Ok(Trace { file, order, opening, frame_count: 0, frames_end: opening.length })
     }
 
     /// How many frames there are, and where the last one ends.
@@ -143,13 +153,15 @@ impl<'a> Trace<'a> {
         let (mut count, mut end) = (0, self.opening.length);
         for frame in self.walk_frames() {
             let frame = frame?;
-            for block in self.walk_blocks(frame) {
-                block?;
-            }
+            self.check_blocks(frame)?;
             count += 1;
             end = frame.data.end();
         }
         Ok((count, end))
+    }
+
+    fn check_blocks(&self, frame: Frame) -> Result<(), Refusal> {
+        self.walk_blocks(frame).try_for_each(|block| block.map(drop))
     }
 
     fn walk_frames(&self) -> Frames<'a> {
@@ -264,6 +276,34 @@ impl<'a> Trace<'a> {
         });
         values.last().ok_or(Refusal::NotFound)
     }
+}
+
+/// The data of frame n and the number of heads read for it. Of the file only these parts are read, and each is told as it
+/// is read: the opening, the heads of frames 0 to n, or up to six bytes where one should start, and the data of frame n.
+pub fn frame_part(
+    settings: Settings,
+    file: &[u8],
+    n: usize,
+    mut tell: impl FnMut(Part),
+) -> Result<(Part, usize), Refusal> {
+    let trace = Trace::open(settings, file, &mut tell)?;
+    let mut frames = trace.walk_frames();
+    let mut heads = 0;
+    loop {
+        tell(up_to(FRAME_HEAD, frames.place, file));
+        let frame = frames.next().ok_or(Refusal::NotFound)??;
+        heads += 1;
+        if heads > n {
+            tell(frame.data);
+            trace.check_blocks(frame)?;
+            return Ok((frame.data, heads));
+        }
+    }
+}
+
+/// As many bytes from a place on, or those that are left of the file.
+fn up_to(count: usize, place: usize, file: &[u8]) -> Part {
+    Part { place, length: count.min(file.len() - place) }
 }
 
 /// The frames from a place on, up to the end mark, the file's end or the first fault.
