@@ -54,6 +54,11 @@ impl Frame<'_> {
         self.fault
     }
 
+    /// Whether it has a fault of any kind.
+    pub fn is_refused(&self) -> bool {
+        self.has_second() || self.fault().is_some()
+    }
+
     /// What follows the letter at fault, where the fault is this one.
     pub fn behind(&self, fault: Refusal) -> Option<&[u8]> {
         let (_, behind) = self.blocks.last()?.split_first()?;

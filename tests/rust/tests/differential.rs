@@ -59,8 +59,7 @@ fn gdb_traces() {
     let met = refusals.chain([false, true].map(Met::Marked)).chain(Met::joins()).chain(Based::ALL.map(Met::Based));
     let met = met.map(|met| (met, wanted / 100));
     // These are counted apart for each byte order, and those about registers for each base.
-    let blocks = Met::all_registers().chain(Met::all_variables()).chain(Met::all_tables());
-    let met = met.chain(blocks.map(|met| (met, wanted / 400)));
+    let met = met.chain(Met::all_of_frames().map(|met| (met, wanted / 400)));
     let mut least: Vec<_> = met.map(|(met, files)| (met, traces.tally.met(met) + files)).collect();
     least.push((Met::Refusal(1), 16));
     for index in 0..wanted {

@@ -1,6 +1,7 @@
 //! The questions about a GDB trace.
 
 use super::lent::Table;
+use super::partial::{by_record, first_refusal, Asked};
 use super::tables::agrees;
 use super::{ask, indices, Based, Comparer, Difference, Met, Registers, Tables, Variables};
 use crate::answers::SECOND;
@@ -74,10 +75,11 @@ impl Comparer<'_> {
         if mark.refusal == 0 {
             self.meet(Met::Marked(mark.marked == 1));
         }
-        let sound = apart.filter(|_| count.refusal == 0);
-        let table = self.tables(settings, file, count.count, sound.as_ref())?;
+        let sound = apart.as_ref().filter(|_| count.refusal == 0);
+        let table = self.tables(settings, file, count.count, sound)?;
+        self.frame_places(settings, file, count, &table, apart.as_ref())?;
         self.lines(settings, file)?;
-        let frames = sound.map_or(Vec::new(), |sound| sound.frames);
+        let frames = sound.map_or(&[][..], |sound| &sound.frames);
         let mut registers = None;
         for n in indices(count.count, self.most) {
             let shown = self.frame(settings, file, n, frames.get(n))?;
@@ -140,9 +142,39 @@ impl Comparer<'_> {
         Ok(given)
     }
 
-    /// Every question about frame n, which is taken apart too where it is there; the answer is where its registers are.
+    /// The data of frames by their numbers, of a refused file too. Of an accepted one they are those of its table, and
+    /// the first frame that is not answered has the refusal of the whole file.
+    fn frame_places(
+        &mut self,
+        settings: Settings,
+        file: &[u8],
+        count: Count,
+        table: &Table,
+        apart: Option<&Frames>,
+    ) -> Result<(), Difference> {
+        let heads = apart.map_or(0, |apart| apart.frames.len());
+        let asked = apart.map(|apart| Asked::new(apart, count.refusal));
+        let mut first = None;
+        for n in indices(heads, self.most).chain([1 << 63]) {
+            let part = ask!(self.frame_place([settings] file [n]))?;
+            let shown = asked.iter().flat_map(|asked| asked.shown(n, part.refusal));
+            shown.for_each(|shown| self.meet(Met::partial(shown, settings)));
+            let record = by_record(n, (n < count.count).then(|| table.row(n)));
+            if count.refusal == 0 && part != record {
+                return Err(Difference::new(format_args!("record and data of frame {n}"), record, part));
+            }
+            first = first.or((part.refusal != 0).then_some(part.refusal));
+        }
+        let whole = Some(first_refusal(count.refusal));
+        if heads < self.most && first != whole {
+            return Err(Difference::new("the first refusal of a frame and that of the file", first, whole));
+        }
+        Ok(())
+    }
+
+    /// Every question about frame n that reads the whole file; the frame is taken apart too where it is there. The answer
+    /// is where its registers are.
     fn frame(&mut self, settings: Settings, file: &[u8], n: usize, apart: Option<&Frame>) -> Result<Place, Difference> {
-        ask!(self.frame_place([settings] file [n]))?;
         let registers = ask!(self.registers_place([settings] file [n]))?;
         let (mut addresses, mut numbers) = (vec![0, u64::MAX], vec![0, 1]);
         let further = successors(Some(self.most), |k| k.checked_mul(2));

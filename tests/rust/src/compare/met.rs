@@ -1,6 +1,6 @@
 //! What the comparison of a file meets.
 
-use super::{Registers, Tables, Variables};
+use super::{Partial, Registers, Tables, Variables};
 use crate::c::Settings;
 use crate::second::Refusal;
 
@@ -30,6 +30,11 @@ pub enum Met {
     /// What a frame table shows of register blocks, in one byte order.
     Tables {
         shown: Tables,
+        big: bool,
+    },
+    /// What the data of a frame that is asked for by its number show, in one byte order.
+    Partial {
+        shown: Partial,
         big: bool,
     },
 }
@@ -97,12 +102,13 @@ impl Based {
 
 impl Met {
     /// How many there are.
-    pub const COUNT: usize = Met::TABLES + 2 * Tables::ALL.len();
+    pub const COUNT: usize = Met::PARTIAL + 2 * Partial::ALL.len();
 
-    /// The first number of those about register blocks, about variables, about frame tables.
+    /// The first number of those about register blocks, about variables, about frame tables, about a frame by its number.
     const REGISTERS: usize = Refusal::LAST as usize + 6 + Based::ALL.len();
     const VARIABLES: usize = Met::REGISTERS + 4 * Registers::ALL.len();
     const TABLES: usize = Met::VARIABLES + 2 * Variables::ALL.len();
+    const PARTIAL: usize = Met::TABLES + 2 * Tables::ALL.len();
 
     /// A number of its own below the count.
     pub fn index(self) -> usize {
@@ -117,6 +123,7 @@ impl Met {
             }
             Met::Variables { shown, big } => Met::VARIABLES + 2 * shown as usize + usize::from(big),
             Met::Tables { shown, big } => Met::TABLES + 2 * shown as usize + usize::from(big),
+            Met::Partial { shown, big } => Met::PARTIAL + 2 * shown as usize + usize::from(big),
         }
     }
 
@@ -132,12 +139,20 @@ impl Met {
         Met::Tables { shown, big: settings.order == 1 }
     }
 
+    pub fn partial(shown: Partial, settings: Settings) -> Self {
+        Met::Partial { shown, big: settings.order == 1 }
+    }
+
     pub fn all() -> impl Iterator<Item = Met> {
         let refusals = (1..=Refusal::LAST).map(Met::Refusal);
         let marks = [false, true].map(Met::Marked);
         let bases = Based::ALL.map(Met::Based);
-        let blocks = Met::all_registers().chain(Met::all_variables()).chain(Met::all_tables());
-        refusals.chain(marks).chain(Met::joins()).chain(bases).chain(blocks)
+        refusals.chain(marks).chain(Met::joins()).chain(bases).chain(Met::all_of_frames())
+    }
+
+    /// All that is shown of frames, counted apart for each byte order.
+    pub fn all_of_frames() -> impl Iterator<Item = Met> {
+        Met::all_registers().chain(Met::all_variables()).chain(Met::all_tables()).chain(Met::all_partial())
     }
 
     /// Joins of all four markings.
@@ -147,19 +162,24 @@ impl Met {
     }
 
     /// All that is shown of register blocks, in both byte orders and both bases.
-    pub fn all_registers() -> impl Iterator<Item = Met> {
+    fn all_registers() -> impl Iterator<Item = Met> {
         let settings = [(false, false), (false, true), (true, false), (true, true)];
         let shown = Registers::ALL.into_iter();
         shown.flat_map(move |shown| settings.map(|(big, ten)| Met::Registers { shown, big, ten }))
     }
 
     /// All that is shown of variables, in both byte orders.
-    pub fn all_variables() -> impl Iterator<Item = Met> {
+    fn all_variables() -> impl Iterator<Item = Met> {
         Variables::ALL.into_iter().flat_map(|shown| [false, true].map(|big| Met::Variables { shown, big }))
     }
 
     /// All that is shown of frame tables, in both byte orders.
-    pub fn all_tables() -> impl Iterator<Item = Met> {
+    fn all_tables() -> impl Iterator<Item = Met> {
         Tables::ALL.into_iter().flat_map(|shown| [false, true].map(|big| Met::Tables { shown, big }))
+    }
+
+    /// All that is shown of frames by their numbers, in both byte orders.
+    fn all_partial() -> impl Iterator<Item = Met> {
+        Partial::ALL.into_iter().flat_map(|shown| [false, true].map(|big| Met::Partial { shown, big }))
     }
 }

@@ -5,11 +5,13 @@ mod edit;
 mod gdb;
 mod lent;
 mod met;
+pub mod partial;
 mod registers;
 pub mod tables;
 mod variables;
 
 pub use met::{Based, Met};
+pub use partial::Partial;
 pub use registers::Registers;
 pub use tables::Tables;
 pub use variables::Variables;

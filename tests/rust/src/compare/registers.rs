@@ -68,7 +68,7 @@ impl Registers {
         if refusal == 0 {
             return chosen(frames.iter().flat_map(of_sound).chain([(Registers::TwoFrames, neighbours(frames))]));
         }
-        let Some(n) = frames.iter().position(is_refused) else { return Vec::new() };
+        let Some(n) = frames.iter().position(Frame::is_refused) else { return Vec::new() };
         let (before, [frame, behind @ ..]) = frames.split_at(n) else { return Vec::new() };
         if refusal == Refusal::SecondRegisters as u8 && frame.has_second() {
             let around = [
@@ -90,10 +90,6 @@ fn chosen(shown: impl Iterator<Item = Shown>) -> Vec<Registers> {
 
 fn has_one(frame: &Frame) -> bool {
     frame.registers().len() == 1
-}
-
-fn is_refused(frame: &Frame) -> bool {
-    frame.has_second() || frame.fault().is_some()
 }
 
 fn neighbours(frames: &[Frame]) -> bool {

@@ -120,12 +120,17 @@ fn unmarked(random: &mut Random, settings: Settings) -> Vec<u8> {
 fn tail(random: &mut Random, settings: Settings) -> Made {
     let mut bytes = unmarked(random, settings);
     let length = random.below(7);
+    bytes.extend_from_slice(&no_mark(random, length));
+    Made::new("tail", bytes, refused_if((1..=5).contains(&length), Refusal::ShortHead))
+}
+
+/// As many bytes, up to six, which do not begin with two zeros.
+pub(super) fn no_mark(random: &mut Random, length: usize) -> Vec<u8> {
     let mut tail = if length == 6 || random.one_in(2) { vec![0; length] } else { random.bytes(length) };
     if tail.starts_with(&[0, 0]) {
         tail[random.below(2)] = 1;
     }
-    bytes.extend_from_slice(&tail);
-    Made::new("tail", bytes, refused_if((1..=5).contains(&length), Refusal::ShortHead))
+    tail
 }
 
 /// The end mark behind every sort of end, or none.
@@ -136,9 +141,14 @@ fn end_mark(random: &mut Random, settings: Settings) -> Made {
     Made::new("end mark", bytes, ACCEPTED)
 }
 
-/// Two zeros and not the end mark: cut short, with another byte in it, or with bytes behind it.
 fn bad_mark(random: &mut Random, settings: Settings) -> Made {
     let mut bytes = unmarked(random, settings);
+    bytes.extend_from_slice(&any_bad_mark(random));
+    Made::new("bad end mark", bytes, refused(Refusal::BadMark))
+}
+
+/// Two zeros and not the end mark: cut short, with another byte in it, or with bytes behind it.
+pub(super) fn any_bad_mark(random: &mut Random) -> Vec<u8> {
     let length = random.pick(&[2, 3, 4, 5, 5, 6, 7, 8, 10, 16]);
     let mut mark = vec![0; length];
     match random.below(3) {
@@ -149,8 +159,7 @@ fn bad_mark(random: &mut Random, settings: Settings) -> Made {
     if mark == END_MARK {
         mark[2 + random.below(2)] = random.pick(&[1, 0xFF]);
     }
-    bytes.extend_from_slice(&mark);
-    Made::new("bad end mark", bytes, refused(Refusal::BadMark))
+    mark
 }
 
 /// A frame of number 0 among the others, sound in itself or with any fault: its size past the file, or a bad block.

@@ -40,7 +40,7 @@ fn any_size(random: &mut Random) -> usize {
 }
 
 /// Blocks of other kinds, as many as one of these numbers.
-fn others(random: &mut Random, order: u8, counts: Range<usize>) -> Vec<Vec<u8>> {
+pub(super) fn others(random: &mut Random, order: u8, counts: Range<usize>) -> Vec<Vec<u8>> {
     let count = counts.start + random.below(counts.len());
     (0..count).map(|_| block(random, order, None)).collect()
 }
@@ -54,7 +54,7 @@ fn with_blocks(random: &mut Random, settings: Settings, size: Option<usize>, blo
 }
 
 /// A register block, some of other kinds, and a second register block.
-fn two(random: &mut Random, order: u8, size: usize, between: Vec<Vec<u8>>) -> Vec<Vec<u8>> {
+pub(super) fn two(random: &mut Random, order: u8, size: usize, between: Vec<Vec<u8>>) -> Vec<Vec<u8>> {
     let [first, second] = [registers(random, size), registers(random, size)];
     [vec![first], between, vec![second], others(random, order, 0..3)].concat()
 }
@@ -150,7 +150,7 @@ fn no_line(random: &mut Random, settings: Settings) -> Made {
 }
 
 /// A frame with a fault that is no second register block, and its refusal.
-fn faulty(random: &mut Random, order: u8) -> (Frame, Refusal) {
+pub(super) fn faulty(random: &mut Random, order: u8) -> (Frame, Refusal) {
     let empty = Frame::of(Vec::new());
     match random.below(6) {
         0 | 1 => (Frame::of(vec![vec![random.pick(BAD_LETTERS)]]), Refusal::BadLetter),
