@@ -12,6 +12,8 @@ use tufakpeni_tests::second::{Refusal, MAX_LENGTH};
 
 #[path = "slips/base.rs"]
 mod base;
+#[path = "slips/partial.rs"]
+mod partial;
 #[path = "slips/registers.rs"]
 mod registers;
 #[path = "slips/tables.rs"]
@@ -167,6 +169,13 @@ fn slips_about_registers_in_the_table_are_seen() {
     }
 }
 
+#[test]
+fn slips_about_a_frame_by_its_number_are_seen() {
+    for slips in [&partial::COUNT_SLIPS[..], &partial::READ_SLIPS, &partial::HEAD_SLIPS] {
+        all_seen(slips, seen_on_traces);
+    }
+}
+
 /// By the reader's own answers too, with no second reader.
 #[test]
 fn records_that_are_not_the_registers_are_seen() {
@@ -189,7 +198,7 @@ fn little_always(settings: Settings, file: &[u8]) -> Count {
     (SECOND.frame_count)(Settings { order: 0, ..settings }, file)
 }
 
-/// The place and length of frame n's data, where the file is accepted.
+/// The place of frame n's data and their bytes, where they are answered.
 fn data(settings: Settings, file: &[u8], n: usize) -> Option<(usize, &[u8])> {
     let frame = (SECOND.frame_place)(settings, file, n);
     (frame.refusal == 0).then(|| (frame.place, &file[frame.place..frame.place + frame.length]))
