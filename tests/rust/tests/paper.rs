@@ -1,11 +1,11 @@
-//! Document 01's own cases, "Both sides of each edge", those of requests C-11, C-13, C-18, C-19 and C-20, and those of
-//! docs/DECISIONS.md, "How the papers are read", with values written out here.
+//! Document 01's own cases, "Both sides of each edge", those of requests C-11, C-13, C-14, C-18, C-19 and C-20, and those
+//! of docs/DECISIONS.md, "How the papers are read", with values written out here.
 //! The second reader is held to them first, then the library.
 
 use tufakpeni_tests::answers::{Answer, SECOND};
 use tufakpeni_tests::c::{
-    Block, Count, CpuRange, Frame, Length, Line, Mark, PairPart, Part, Place, Range, Selection, Settings, Value,
-    ENDING_FLYRECORD, ENDING_LATENCY, LINE_OTHER, LINE_R, LINE_STATUS, LINE_TDESC, LINE_TP, LINE_TSV,
+    Block, Count, CpuRange, Frame, FramePart, Length, Line, Mark, PairPart, Part, Place, Range, Selection, Settings,
+    Value, ENDING_FLYRECORD, ENDING_LATENCY, LINE_OTHER, LINE_R, LINE_STATUS, LINE_TDESC, LINE_TP, LINE_TSV,
 };
 use tufakpeni_tests::library::LIBRARY;
 use tufakpeni_tests::make::longest;
@@ -14,6 +14,8 @@ use tufakpeni_tests::second::MAX_LENGTH;
 
 #[path = "paper/base.rs"]
 mod base;
+#[path = "paper/partial.rs"]
+mod partial;
 #[path = "paper/registers.rs"]
 mod registers;
 #[path = "paper/tables.rs"]
@@ -35,17 +37,47 @@ const TOP_MEMORY: &[u8] = b"\n\x01\0\x0D\0\0\0M\xFF\xFF\xFF\xFF\xFF\xFF\xFF\xFF\
 /// A frame of 13 bytes with variable 1, all bits of its value set.
 const VARIABLE: &[u8] = b"\n\x01\0\x0D\0\0\0V\x01\0\0\0\xFF\xFF\xFF\xFF\xFF\xFF\xFF\xFF";
 
+/// One to five bytes where a head should start.
+const SHORT_HEADS: [&[u8]; 9] = [
+    b"\x07",
+    b"\x07\x07",
+    b"\x07\x07\x01",
+    b"\x01\0\0\0",
+    b"\x07\x07\0\0\0",
+    b"\0",
+    b"\0\x01",
+    b"\0\x01\0\0",
+    b"\x07\0\0\0\0",
+];
+/// Two bytes of 0, and bad marks with bytes behind them and without.
+const BAD_MARKS: [&[u8]; 10] = [
+    b"\0\0",
+    b"\0\0\0",
+    b"\0\0\x01\0",
+    b"\0\0\0\x01",
+    b"\0\0\0\0\0",
+    b"\0\0\0\0\0\0",
+    b"\0\0\0\0\x07",
+    b"\0\0\0\0\x01\0\0\0\0\0",
+    b"\0\0\xFF\xFF\xFF\xFF",
+    b"\0\0\0\0\0\0\x07\x07\0\0\0\0",
+];
+
 fn trace(rest: &[u8]) -> Vec<u8> {
     [H, rest].concat()
 }
 
-/// A frame of number 7 with these data, in the byte order of the settings.
-fn frame(settings: Settings, data: &[u8]) -> Vec<u8> {
-    let (number, size) = (7_u16, data.len() as u32);
+/// A frame's head in the byte order of the settings.
+fn head(settings: Settings, number: u16, size: u32) -> Vec<u8> {
     match settings.order {
-        0 => [&number.to_le_bytes(), &size.to_le_bytes()[..], data].concat(),
-        _ => [&number.to_be_bytes(), &size.to_be_bytes()[..], data].concat(),
+        0 => [&number.to_le_bytes()[..], &size.to_le_bytes()].concat(),
+        _ => [&number.to_be_bytes()[..], &size.to_be_bytes()].concat(),
     }
+}
+
+/// A frame of number 7 with these data.
+fn frame(settings: Settings, data: &[u8]) -> Vec<u8> {
+    [&head(settings, 7, data.len() as u32), data].concat()
 }
 
 /// A trace with this description and a frame for each of these data.
@@ -59,14 +91,16 @@ fn refusal(reader: &Reader, settings: Settings, rest: &[u8]) -> u8 {
     (reader.frame_count)(settings, &trace(rest)).refusal
 }
 
-/// This refusal and nothing else from every call about a trace, with every output as it was.
+/// This refusal and nothing else from every call about a trace, with every output as it was. The data of a frame are refused
+/// with it for the first frame that is not answered.
 fn every_call_refuses(reader: &Reader, settings: Settings, file: &[u8], refusal: u8) {
     let (mut records, mut out) = ([[7; 4]; 2], [0xEE; 64]);
     assert_eq!((reader.frame_count)(settings, file), Answer::refused(refusal));
     assert_eq!((reader.end_mark)(settings, file), Answer::refused(refusal));
     assert_eq!((reader.frame_table)(settings, file, &mut records), Answer::refused(refusal));
     assert_eq!((reader.line_place)(settings, file, 0), Answer::refused(refusal));
-    assert_eq!((reader.frame_place)(settings, file, 0), Answer::refused(refusal));
+    let mut frames = (0..).map(|n| (reader.frame_place)(settings, file, n));
+    assert_eq!(frames.find(|part| part.refusal != 0), Some(Answer::refused(refusal)));
     assert_eq!((reader.block_record)(settings, file, 0, 0), Answer::refused(refusal));
     assert_eq!((reader.registers_place)(settings, file, 0), Answer::refused(refusal));
     assert_eq!((reader.memory_place)(settings, file, 0, 0), Answer::refused(refusal));
@@ -110,7 +144,7 @@ fn heads_and_frames(reader: &Reader) {
         let mut table = [[0; 4]];
         assert_eq!((reader.frame_table)(settings, &one, &mut table), Count { refusal: 0, count: 1 });
         assert_eq!(fields(&table[0]), Frame { tracepoint, place: 15, ..Frame::default() });
-        assert_eq!((reader.frame_place)(settings, &one, 0), Place { refusal: 0, place: 15, length: 0 });
+        assert_eq!((reader.frame_place)(settings, &one, 0), FramePart { refusal: 0, place: 15, length: 0, heads: 1 });
     }
     assert_eq!((reader.frame_count)(LITTLE, &one[..14]).refusal, 6);
     let no_order = Settings { order: 2, ..LITTLE };
@@ -243,24 +277,13 @@ fn end_marks(reader: &Reader) {
         (b"\n\x01\0\x0B\0\0\0M\0\0\0\0\0\0\0\0\0\0", 1),
         (b"\n\x01\x01\0\0\0\0\0\x01\0\0\0\0", 2),
     ];
-    let bad: [&[u8]; 8] = [
-        b"\0\0",
-        b"\0\0\0",
-        b"\0\0\x01\0",
-        b"\0\0\0\x01",
-        b"\0\0\0\0\0",
-        b"\0\0\0\0\0\0",
-        b"\0\0\0\0\x01\0\0\0\0\0",
-        b"\0\0\xFF\xFF\xFF\xFF",
-    ];
     for (front, frames) in fronts {
         for (tail, marked) in [(&b""[..], 0), (b"\0\0\0\0", 1)] {
             let file = trace(&[front, tail].concat());
             assert_eq!((reader.frame_count)(LITTLE, &file), Count { refusal: 0, count: frames }, "{file:?}");
             assert_eq!((reader.end_mark)(LITTLE, &file), Mark { refusal: 0, marked }, "{file:?}");
         }
-        let cut_short: [&[u8]; 4] = [b"\0", b"\0\x01", b"\0\x01\0\0", b"\x01\0\0\0"];
-        for (tails, refusal) in [(&cut_short[..], 6), (&bad, 18)] {
+        for (tails, refusal) in [(&SHORT_HEADS[..], 6), (&BAD_MARKS, 18)] {
             for tail in tails {
                 let file = trace(&[front, tail].concat());
                 assert_eq!((reader.end_mark)(LITTLE, &file), Mark { refusal, marked: 0 }, "{file:?}");
@@ -399,6 +422,7 @@ fn all(reader: &Reader) {
     end_marks(reader);
     marked_edits(reader);
     base::all(reader);
+    partial::all(reader);
     registers::all(reader);
     tables::all(reader);
     variables::all(reader);
