@@ -1,8 +1,9 @@
-//! The laws of cuts, joins and frame tables, run on made traces of one opening and on random selections through the C
-//! interface, in both byte orders and both bases.
+//! The laws of cuts, joins, frame tables and frames by their numbers, run on made traces of one opening and on random
+//! selections through the C interface, in both byte orders and both bases.
 
 use tufakpeni_tests::answers::selection as of_c;
 use tufakpeni_tests::c::{Frame, Length, Selection, Settings};
+use tufakpeni_tests::compare::partial::by_record;
 use tufakpeni_tests::compare::tables::all_agree;
 use tufakpeni_tests::library::LIBRARY;
 use tufakpeni_tests::make::gdb::{Trace, END_MARK};
@@ -110,6 +111,17 @@ impl Round {
         assert_eq!(cuts[0].len() + cuts[1].len(), file.len() + self.opening.len() + self.mark.len());
     }
 
+    /// By its number each frame is that of the table, with one head more than frames before it; past the last there is none.
+    fn a_frame_by_its_number_is_that_of_the_table(&self) {
+        let [first, second, _] = &self.traces;
+        for file in [first, &self.cut(first, self.a), &self.join(first, second)] {
+            let rows = self.frames(file).into_iter().map(|(row, _)| Some(row));
+            for (n, row) in rows.chain([None, None]).enumerate() {
+                assert_eq!((LIBRARY.frame_place)(self.settings, file, n), by_record(n, row));
+            }
+        }
+    }
+
     fn the_table_has_the_registers(&self) {
         let [first, second, _] = &self.traces;
         for file in [first, &self.cut(first, self.a), &self.join(first, second)] {
@@ -138,13 +150,14 @@ fn selects(selection: &Selection, tracepoint: u16) -> bool {
 
 #[test]
 fn the_laws_hold() {
-    let laws: [fn(&Round); 7] = [
+    let laws: [fn(&Round); 8] = [
         Round::a_join_is_cut_as_its_parts_are,
         Round::cuts_commute,
         Round::joining_is_associative,
         Round::the_bare_opening_is_a_unit,
         Round::the_bare_marked_opening_marks,
         Round::a_selection_and_its_opposite_part_the_frames,
+        Round::a_frame_by_its_number_is_that_of_the_table,
         Round::the_table_has_the_registers,
     ];
     let seed = seed();

@@ -91,6 +91,41 @@ fn library_and_second_reader_agree() {
     println!("gdb's traces: {} files, {} calls compared, no difference", SAVED.len(), comparer.calls);
 }
 
+/// Of the refused traces the refusal of each frame by its number, 0 where it is answered; the last is that of every number
+/// from there on.
+const FRAMES_OF_REFUSED: [(&str, &[u8]); 3] =
+    [("circular", &[0, 0, 0, 0, 0, 8, 18]), ("raw", &[24, 0, 24, 0, 24, 0, 0, 12]), ("zeronum", &[18])];
+
+impl Saved {
+    /// The same of any: of an accepted one each frame is answered.
+    fn frame_refusals(&self) -> Vec<u8> {
+        if let Ok(count) = self.frames {
+            return [vec![0; count], vec![12]].concat();
+        }
+        let (_, told) = FRAMES_OF_REFUSED.iter().find(|(name, _)| *name == self.name).expect("a refused trace");
+        told.to_vec()
+    }
+}
+
+/// By every number that a frame has, and by numbers past them.
+#[test]
+fn frames_by_their_numbers() {
+    let mut answered = 0;
+    for saved in &SAVED {
+        let (bytes, settings, told) = (saved.bytes(), (LIBRARY.default_settings)(saved.order), saved.frame_refusals());
+        let (count, behind) = (told.len(), told[told.len() - 1]);
+        let past = [count, count + 1, 1 << 63, usize::MAX].map(|n| (n, behind));
+        for (n, refusal) in told.into_iter().enumerate().chain(past) {
+            let [library, second] = [LIBRARY, SECOND].map(|reader| (reader.frame_place)(settings, &bytes, n));
+            assert_eq!(library, second, "{}: frame {n}", saved.name);
+            assert_eq!(library.refusal, refusal, "{}: frame {n}", saved.name);
+            assert_eq!(library.heads, if refusal == 0 { n + 1 } else { 0 }, "{}: frame {n}", saved.name);
+            answered += usize::from(refusal == 0);
+        }
+    }
+    println!("gdb's traces: {answered} frames by their numbers");
+}
+
 /// In base 16, the default, and in base 10, where each has an R line with a letter in it.
 #[test]
 fn each_form_has_its_refusal() {
