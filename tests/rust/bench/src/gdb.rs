@@ -79,11 +79,6 @@ fn frame_table(side: Side, work: &mut Work) -> Told {
     }
 }
 
-fn last_frame(side: Side, work: &mut Work) -> Told {
-    let answer = (side.reader().frame_place)(work.settings, black_box(&work.file), work.last());
-    (answer.refusal, answer.place, answer.length)
-}
-
 fn last_memory(side: Side, work: &mut Work) -> Told {
     let answer = (side.reader().memory_place)(work.settings, black_box(&work.file), work.last(), LAST_ADDRESS + 5);
     (answer.refusal, answer.place, answer.length)
@@ -145,11 +140,10 @@ struct Question {
     copy: Option<fn(&mut Work, usize)>,
 }
 
-const QUESTIONS: [Question; 10] = [
+const QUESTIONS: [Question; 9] = [
     Question { name: "number of frames", ask: frame_count, copy: None },
     Question { name: "end mark", ask: end_mark, copy: None },
     Question { name: "frame table", ask: frame_table, copy: None },
-    Question { name: "last frame", ask: last_frame, copy: None },
     Question { name: "memory in the last frame", ask: last_memory, copy: None },
     Question { name: "registers of the last frame", ask: last_registers, copy: None },
     Question { name: "variable in the last frame", ask: last_variable, copy: None },

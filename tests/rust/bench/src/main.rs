@@ -1,11 +1,12 @@
-//! The library's speed beside that of the second reader in plain Rust, in one process and on the same bytes, and that of the registers
-//! through the Rust wrapper. Prints a table of each.
+//! The library's speed beside that of the second reader in plain Rust, in one process and on the same bytes, that of one frame by its
+//! number, and that of the registers through the Rust wrapper. Prints a table of each.
 //!
-//!     bench [ROUNDS] [registers]
+//!     bench [ROUNDS] [frame] [registers]
 //!
-//! With `registers` only the wrapper's.
+//! With `frame` only that of one frame, with `registers` only the wrapper's, with both those two.
 mod dat;
 mod files;
+mod frame;
 mod gdb;
 mod question;
 mod registers;
@@ -17,17 +18,19 @@ use std::env;
 const ROUNDS: usize = 11;
 
 fn main() {
-    let (mut rounds, mut all) = (ROUNDS, true);
+    let mut rounds = ROUNDS;
+    let mut chosen: Vec<fn(usize)> = Vec::new();
     for word in env::args().skip(1) {
         match &word[..] {
-            "registers" => all = false,
+            "frame" => chosen.push(frame::run),
+            "registers" => chosen.push(registers::run),
             number => rounds = number.parse().expect("ROUNDS is a number"),
         }
     }
-    if all {
-        readers(rounds);
+    if chosen.is_empty() {
+        chosen = vec![readers, frame::run, registers::run];
     }
-    registers::run(rounds);
+    chosen.into_iter().for_each(|run| run(rounds));
 }
 
 /// The library beside plain Rust.
