@@ -58,14 +58,14 @@ pub struct MadeTrace {
 pub fn any_trace(random: &mut Random) -> MadeTrace {
     let settings = settings::right(random);
     let trace = Trace::valid(random, settings);
-    let made = match random.below(15) {
-        0..=2 => Made::new("valid", trace.bytes(), Some(0)),
-        3 => damage::shortened(random, trace.bytes()),
-        4 | 5 => damage::damaged(random, trace.bytes()),
-        6 => random.pick(&size_edges::EDGES)(random, settings),
-        7 | 8 => random.pick(&register_edges::EDGES)(random, settings),
-        9 => random.pick(&variable_edges::EDGES)(random, settings),
-        10 | 11 => random.pick(&partial_edges::EDGES)(random, settings),
+    let made = match random.below(27) {
+        0..=5 => Made::new("valid", trace.bytes(), Some(0)),
+        6 | 7 => damage::shortened(random, trace.bytes()),
+        8..=11 => damage::damaged(random, trace.bytes()),
+        12 | 13 => random.pick(&size_edges::EDGES)(random, settings),
+        14..=17 => random.pick(&register_edges::EDGES)(random, settings),
+        18 | 19 => random.pick(&variable_edges::EDGES)(random, settings),
+        20 => random.pick(&partial_edges::EDGES)(random, settings),
         _ => random.pick(&gdb_edges::EDGES)(random, settings),
     };
     let partner = partner(random, &trace, &made);

@@ -2,7 +2,7 @@
 
 use super::gdb::{Frame, Trace, END_MARK};
 use super::gdb_edges::{any_bad_mark, any_frame, no_mark, refused, Edge};
-use super::register_edges::{faulty, others, two};
+use super::register_edges::{faulty, others, two, BAD_LETTERS};
 use super::{Made, Random};
 use crate::c::Settings;
 use crate::second::Refusal;
@@ -28,14 +28,18 @@ fn faults(random: &mut Random, settings: Settings) -> Made {
     Made::new("faults", [trace.bytes(), tail].concat(), Some(first.map_or(0, |refusal| refusal as u8)))
 }
 
-/// A frame at fault and its refusal: 8, 9, 7, 18, or with two register blocks 24, or 10 without an R line.
+/// A frame at fault and its refusal: 8, 9, 7, 18, or with two register blocks 24, 8 where a bad letter stands between them,
+/// and 10 without an R line.
 fn fault(random: &mut Random, order: u8, size: Option<usize>) -> (Frame, Refusal) {
     if random.one_in(2) {
         return faulty(random, order);
     }
-    let between = others(random, order, 0..2);
-    let frame = Frame::of(two(random, order, size.unwrap_or(1), between));
-    (frame, size.map_or(Refusal::NoRegisterSize, |_| Refusal::SecondRegisters))
+    let (between, refusal) = match (size, random.below(3)) {
+        (None, _) => (others(random, order, 0..2), Refusal::NoRegisterSize),
+        (_, 0) => (vec![vec![random.pick(BAD_LETTERS)]], Refusal::BadLetter),
+        _ => (others(random, order, 0..2), Refusal::SecondRegisters),
+    };
+    (Frame::of(two(random, order, size.unwrap_or(0), between)), refusal)
 }
 
 /// What stands behind the last frame, and its refusal: nothing, the end mark, one to five bytes, or a bad mark.

@@ -32,7 +32,7 @@ pub const EDGES: [Edge; 18] = [
 ];
 
 /// What no block starts with.
-const BAD_LETTERS: &[u8] = b"rQSmv\0\xFF";
+pub(super) const BAD_LETTERS: &[u8] = b"rQSmv\0\xFF";
 
 /// A register size, mostly one that both bases spell alike.
 fn any_size(random: &mut Random) -> usize {
