@@ -5,9 +5,10 @@ use tufakpeni_tests::answers::selection as of_c;
 use tufakpeni_tests::c::{Frame, Length, Selection, Settings};
 use tufakpeni_tests::compare::partial::by_record;
 use tufakpeni_tests::compare::tables::all_agree;
+use tufakpeni_tests::letters::Frames;
 use tufakpeni_tests::library::LIBRARY;
 use tufakpeni_tests::make::gdb::{Trace, END_MARK};
-use tufakpeni_tests::make::{selection, settings, Random};
+use tufakpeni_tests::make::{any_trace, selection, settings, Random};
 use tufakpeni_tests::reader::fields;
 use tufakpeni_tests::run::seed;
 
@@ -130,6 +131,24 @@ impl Round {
     }
 }
 
+/// Behind the opening alone a frame is a trace that is read or refused as the frame is by its number, of files of any sort:
+/// so its blocks are judged as the whole reading judges them, and no other frame counts. How many frames were answered.
+fn each_frame_alone_is_the_same(settings: Settings, file: &[u8]) -> usize {
+    let Some(Frames { opening, frames, .. }) = Frames::read(settings, file) else { return 0 };
+    let mut answered = 0;
+    for (n, frame) in frames.iter().enumerate() {
+        let data = frame.blocks.concat();
+        let alone = (LIBRARY.frame_count)(settings, &[opening, frame.head, &data].concat());
+        let part = (LIBRARY.frame_place)(settings, file, n);
+        assert_eq!(part.refusal, alone.refusal, "frame {n}");
+        if part.refusal == 0 {
+            assert_eq!((&file[part.place..part.place + part.length], part.heads), (&data[..], n + 1));
+            answered += 1;
+        }
+    }
+    answered
+}
+
 /// Where a frame's registers stand in its data, by its record.
 fn registers_in(frame: &Frame) -> Option<usize> {
     (frame.has_registers == 1).then(|| frame.registers_place - frame.place)
@@ -169,4 +188,21 @@ fn the_laws_hold() {
         }
     }
     println!("laws: seed {seed}, {ROUNDS} rounds of {} laws", laws.len());
+}
+
+#[test]
+fn frames_alone() {
+    let seed = seed();
+    let (mut answered, mut of_refused) = (0, 0);
+    for index in 0..ROUNDS {
+        let trace = any_trace(&mut Random::of(seed, index));
+        let (settings, file) = (trace.settings, trace.made.file());
+        let Ok(count) = std::panic::catch_unwind(|| each_frame_alone_is_the_same(settings, file)) else {
+            panic!("seed {seed}, file {index}: {settings:?}, {file:02x?}");
+        };
+        answered += count;
+        of_refused += if (LIBRARY.frame_count)(settings, file).refusal == 0 { 0 } else { count };
+    }
+    println!("laws: seed {seed}, {ROUNDS} files, {answered} frames alone, {of_refused} of them of refused files");
+    assert!(of_refused > ROUNDS / 10);
 }

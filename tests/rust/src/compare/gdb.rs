@@ -155,7 +155,7 @@ impl Comparer<'_> {
         let heads = apart.map_or(0, |apart| apart.frames.len());
         let asked = apart.map(|apart| Asked::new(apart, count.refusal));
         let mut first = None;
-        for n in indices(heads, self.most).chain([1 << 63]) {
+        for n in indices(heads, self.most).chain([heads / 2, 1 << 63]) {
             let part = ask!(self.frame_place([settings] file [n]))?;
             let shown = asked.iter().flat_map(|asked| asked.shown(n, part.refusal));
             shown.for_each(|shown| self.meet(Met::partial(shown, settings)));
