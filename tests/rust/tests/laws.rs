@@ -112,7 +112,7 @@ impl Round {
         assert_eq!(cuts[0].len() + cuts[1].len(), file.len() + self.opening.len() + self.mark.len());
     }
 
-    /// By its number each frame is that of the table, with one head more than frames before it; past the last there is none.
+    /// By its number each frame is that of the table, with one head more than frames before it; past the last is none.
     fn a_frame_by_its_number_is_that_of_the_table(&self) {
         let [first, second, _] = &self.traces;
         for file in [first, &self.cut(first, self.a), &self.join(first, second)] {
@@ -131,8 +131,8 @@ impl Round {
     }
 }
 
-/// Behind the opening alone a frame is a trace that is read or refused as the frame is by its number, of files of any sort:
-/// so its blocks are judged as the whole reading judges them, and no other frame counts. How many frames were answered.
+/// Alone behind the opening each frame makes a trace that is read or refused as the frame is by its number: its blocks
+/// are judged as the whole reading judges them, and no other frame counts. The answer is how many are answered.
 fn each_frame_alone_is_the_same(settings: Settings, file: &[u8]) -> usize {
     let Some(Frames { opening, frames, .. }) = Frames::read(settings, file) else { return 0 };
     let mut answered = 0;

@@ -1,6 +1,6 @@
-//! Document 01's own cases, "Both sides of each edge", those of requests C-11, C-13, C-14, C-18, C-19 and C-20, and those
-//! of docs/DECISIONS.md, "How the papers are read", with values written out here.
-//! The second reader is held to them first, then the library.
+//! Document 01's own cases, "Both sides of each edge", those of requests C-11, C-13, C-14, C-18, C-19 and C-20, and
+//! those of docs/DECISIONS.md, "How the papers are read", with values written out here. The second reader is held to
+//! them first, then the library.
 
 use tufakpeni_tests::answers::{Answer, SECOND};
 use tufakpeni_tests::c::{
@@ -91,8 +91,8 @@ fn refusal(reader: &Reader, settings: Settings, rest: &[u8]) -> u8 {
     (reader.frame_count)(settings, &trace(rest)).refusal
 }
 
-/// This refusal and nothing else from every call about a trace, with every output as it was. The data of a frame are refused
-/// with it for the first frame that is not answered.
+/// This refusal and nothing else from every call about a trace, with every output as it was. The data of a frame are
+/// refused with it for the first frame that is not answered.
 fn every_call_refuses(reader: &Reader, settings: Settings, file: &[u8], refusal: u8) {
     let (mut records, mut out) = ([[7; 4]; 2], [0xEE; 64]);
     assert_eq!((reader.frame_count)(settings, file), Answer::refused(refusal));

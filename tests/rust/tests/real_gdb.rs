@@ -91,8 +91,8 @@ fn library_and_second_reader_agree() {
     println!("gdb's traces: {} files, {} calls compared, no difference", SAVED.len(), comparer.calls);
 }
 
-/// Of the refused traces the refusal of each frame by its number, 0 where it is answered; the last is that of every number
-/// from there on.
+/// Of the refused traces the refusal of each frame by its number, 0 where it is answered; the last is that of every
+/// number from there on.
 const FRAMES_OF_REFUSED: [(&str, &[u8]); 3] =
     [("circular", &[0, 0, 0, 0, 0, 8, 18]), ("raw", &[24, 0, 24, 0, 24, 0, 0, 12]), ("zeronum", &[18])];
 

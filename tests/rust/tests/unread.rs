@@ -1,5 +1,5 @@
-//! The data of a frame go by the parts of the file that are read for them, and by the file's length: whatever else stands
-//! in the file, the answer is the same. The second reader tells the parts; every byte outside them is changed.
+//! The data of a frame go by the parts of the file that are read for them, and by the file's length: whatever else
+//! stands in the file, the answer is the same. The second reader tells the parts; every byte outside them is changed.
 
 use std::ops::Range;
 use tufakpeni_tests::answers::{parts_read, Answer, SECOND};

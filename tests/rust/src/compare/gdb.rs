@@ -172,8 +172,8 @@ impl Comparer<'_> {
         Ok(())
     }
 
-    /// Every question about frame n that reads the whole file; the frame is taken apart too where it is there. The answer
-    /// is where its registers are.
+    /// Every question about frame n that reads the whole file; the frame is taken apart too where it is there. The
+    /// answer is where its registers are.
     fn frame(&mut self, settings: Settings, file: &[u8], n: usize, apart: Option<&Frame>) -> Result<Place, Difference> {
         let registers = ask!(self.registers_place([settings] file [n]))?;
         let (mut addresses, mut numbers) = (vec![0, u64::MAX], vec![0, 1]);

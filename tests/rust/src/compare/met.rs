@@ -104,7 +104,7 @@ impl Met {
     /// How many there are.
     pub const COUNT: usize = Met::PARTIAL + 2 * Partial::ALL.len();
 
-    /// The first number of those about register blocks, about variables, about frame tables, about a frame by its number.
+    /// The first number of those about register blocks, variables, frame tables, and frames by their numbers.
     const REGISTERS: usize = Refusal::LAST as usize + 6 + Based::ALL.len();
     const VARIABLES: usize = Met::REGISTERS + 4 * Registers::ALL.len();
     const TABLES: usize = Met::VARIABLES + 2 * Variables::ALL.len();

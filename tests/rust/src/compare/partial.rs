@@ -10,8 +10,8 @@ use crate::second::Refusal;
 /// What an answer for frame n shows.
 #[derive(Clone, Copy, Debug, PartialEq, Eq)]
 pub enum Partial {
-    /// Answered though the file is refused: for a fault anywhere behind frame n, for one in the head right behind it, for
-    /// one in the blocks of an earlier frame.
+    /// Answered though the file is refused: for a fault anywhere behind frame n, for one in the head right behind it,
+    /// for one in the blocks of an earlier frame.
     FaultBehind,
     HeadFaultBehind,
     FaultBefore,

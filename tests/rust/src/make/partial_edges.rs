@@ -28,8 +28,8 @@ fn faults(random: &mut Random, settings: Settings) -> Made {
     Made::new("faults", [trace.bytes(), tail].concat(), Some(first.map_or(0, |refusal| refusal as u8)))
 }
 
-/// A frame at fault and its refusal: 8, 9, 7, 18, or with two register blocks 24, 8 where a bad letter stands between them,
-/// and 10 without an R line.
+/// A frame at fault and its refusal: 8, 9, 7, 18, or with two register blocks 24, 8 where a bad letter stands between
+/// them, and 10 without an R line.
 fn fault(random: &mut Random, order: u8, size: Option<usize>) -> (Frame, Refusal) {
     if random.one_in(2) {
         return faulty(random, order);
@@ -55,8 +55,8 @@ fn any_end(random: &mut Random) -> (Vec<u8>, Option<Refusal>) {
     }
 }
 
-/// A frame among others whose size is not that of its data: up to the file's end, past it by one, or off by a little, so
-/// that the next head is read elsewhere.
+/// A frame among others whose size is not that of its data: up to the file's end, past it by one, or off by a little,
+/// so that the next head is read elsewhere.
 fn other_size(random: &mut Random, settings: Settings) -> Made {
     let (mut trace, n) = any_frame(random, settings, Some(2));
     let size = trace.frames[n].data().len();

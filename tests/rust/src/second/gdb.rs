@@ -278,8 +278,8 @@ impl<'a> Trace<'a> {
     }
 }
 
-/// The data of frame n and the number of heads read for it. Of the file only these parts are read, and each is told as it
-/// is read: the opening, the heads of frames 0 to n, or up to six bytes where one should start, and the data of frame n.
+/// The data of frame n and the number of heads read for it. Of the file only these parts are read, each told as it is
+/// read: the opening, the heads of frames 0 to n, or up to six bytes where one should start, and the data of frame n.
 pub fn frame_part(
     settings: Settings,
     file: &[u8],

@@ -1,5 +1,5 @@
-//! The cases of request C-14: the data of frame n by the parts alone that are read for them, in both byte orders and both
-//! bases.
+//! The cases of request C-14: the data of frame n by the parts alone that are read for them, in both byte orders and
+//! both bases.
 
 use super::{every_call_refuses, frame, head, trace, with_frames, ALL, BAD_MARKS, BIG, H, LITTLE, SHORT_HEADS};
 use tufakpeni_tests::answers::Answer;
@@ -92,7 +92,7 @@ impl Given<'_> {
         }
     }
 
-    /// In the first frame, in one between, in the last: the others are answered, and what stands behind all counts for none.
+    /// In the first frame, between and in the last: the others are answered, and what stands behind counts for none.
     fn blocks_at_fault(&self) {
         for (fault, refusal) in FAULTS {
             let size = fault.len();
@@ -126,8 +126,8 @@ impl Given<'_> {
         }
     }
 
-    /// 7 by the size of an earlier frame and by its own, ahead of that frame's blocks. The frame stands at 22, with 19 bytes
-    /// behind its head.
+    /// 7 by the size of an earlier frame and by its own, ahead of that frame's blocks. The frame stands at 22, with 19
+    /// bytes behind its head.
     fn sizes_at_fault(&self) {
         let front = self.file(&[REGISTERS], b"");
         for data in [VARIABLE, b"xxxxxxxxxxxxx"] {
