@@ -3,7 +3,7 @@
 use mathlib.Core.Path.{_≡_, refl, sym, ap, _∙_}
 use mathlib.Core.Bool.{Bool, true, false, cond}
 use mathlib.Core.Option.{Option, none, some}
-use Prim.Native.Nat.{ℕ, _+_, _<_, _≤_}
+use Prim.Native.Nat.{ℕ, _+_, _<_}
 use native.Mathlib.Nat.{add-zero}
 use native.Mathlib.Omega.{arith}
 use mathlib.Core.List.{List, [], _∷_, _++_, append-assoc}
@@ -23,7 +23,6 @@ use Rattle.gdb_format.specs.Lines.{registerSize}
 use Rattle.gdb_format.specs.Layout.{LinesFit, FrameFits}
 use Rattle.gdb_format.specs.Decode.{blockAfter, seenAfter, blocks, frameHead, frame, ending, frames, openingLines, trace, decode, read}
 use Rattle.gdb_format.specs.ExactFrame.{HeadFits, exact-head, exact-frame, takes-head, frames-more, frames-fault}
-use Rattle.gdb_format.specs.ExactLines.{exact-opening}
 use Rattle.gdb_format.specs.declared.Settings.{Settings}
 use Rattle.gdb_format.specs.declared.Format.{Format}
 use Rattle.gdb_read.specs.Steps.{Row, headSeen}
@@ -31,8 +30,9 @@ use Rattle.gdb_frames.specs.Nth.{foundBy}
 use Rattle.gdb_frames.specs.Places.{part}
 use Rattle.gdb_frames.specs.Questions.{dataIn}
 use Rattle.gdb_seek.specs.Walk.{beforeEnd, headOrEnd, Walk, walkTo}
-use Rattle.gdb_seek.specs.Found.{judged, foundBehind, foundIn, frameFound}
+use Rattle.gdb_seek.specs.Found.{judged, foundBehind, frameFound}
 use Rattle.gdb_seek.specs.Turns.{head-met}
+use Rattle.gdb_seek.specs.Openings.{Opens, opened, behind-opening}
 use Rattle.gdb_seek.specs.Heads.{head-here, rest-here, data-here, here-head}
 
 -- the file starts with an opening and n sound frames; behind them anything
@@ -130,11 +130,8 @@ module _ (f : Format) (b : List ℕ) (n k : ℕ) (w : Bytes b) (z : StartsSound 
   abbrev size : Option ℕ
   size = registerSize f (z .lines)
 
-  opened : openingLines f b ≡ accepted (z .lines, concatMap (putFrame f) (z .sound) ++ z .rest)
-  opened = ap (openingLines f) (sym (z .laid-out)) ∙ (exact-opening f) .back (z .lines) _ (z .lines-fit)
-
-  behind : drop start b ≡ concatMap (putFrame f) (z .sound) ++ z .rest
-  behind = ap (drop start) (sym (z .laid-out)) ∙ drop-at (opening (z .lines)) _ start refl
+  starts : Opens f b (z .lines) (concatMap (putFrame f) (z .sound) ++ z .rest)
+  starts = record { fits = z .lines-fit; laid-out = z .laid-out }
 
   abbrev end : ℕ
   end = start + length (concatMap (putFrame f) (z .sound))
@@ -142,17 +139,17 @@ module _ (f : Format) (b : List ℕ) (n k : ℕ) (w : Bytes b) (z : StartsSound 
   rest-there : drop end b ≡ z .rest
   rest-there =
       let hs = concatMap (putFrame f) (z .sound) in
-      sym (drop-drop (length hs) start b) ∙ ap (drop (length hs)) behind ∙ drop-at hs (z .rest) (length hs) refl
+      sym (drop-drop (length hs) start b) ∙ ap (drop (length hs)) (behind-opening starts) ∙ drop-at hs (z .rest) (length hs) refl
 
   trace-refused : (k ≡ notFound → ⊥) → foundBehind f b n (z .lines) ≡ refused k → trace f b ≡ refused k
   unfolding trace
   trace-refused other e =
       let reach : walkTo f b n start .reached ≡ next (headOrEnd f b end) (foundBy (λ v. v)) =
       ap (λ m. walkTo f b m start .reached) (sym (z .so-many))
-      ∙ walk-over f b (z .sound) start (z .rest) (each-map (λ r g. (g .0, g .1, g .3)) (z .sound) (z .sound-fit)) behind in
+      ∙ walk-over f b (z .sound) start (z .rest) (each-map (λ r g. (g .0, g .1, g .3)) (z .sound) (z .sound-fit)) (behind-opening starts) in
       let q = frame-refused f b w size end k other (walkTo f b n start) reach e in
       let here : (ending (z .rest) ≡ none) × (frame f size (z .rest) ≡ refused k) = rw rest-there at q in
-      rw (opened, frames-refused f size (z .sound) (z .rest) k (z .sound-fit) (here .0) (here .1))
+      rw (opened starts, frames-refused f size (z .sound) (z .rest) k (z .sound-fit) (here .0) (here .1))
 
 -- where the file starts with an opening and n sound frames, what is refused but for 12 is refused so by the whole reading
 pub first-fault : (s : Settings) (f : Format) (b : List ℕ) (n k : ℕ) → Bytes b → settingsOf s ≡ accepted f → StartsSound f b n → (k ≡ notFound → ⊥)
@@ -162,5 +159,5 @@ first-fault s f b n k w ok z other e = rw ok (by (leb (length b) limit) (rw ok a
   where
     by : (t : Bool) → cond t (next (openingLines f b) (λ o. foundBehind f b n (o .0))) (refused tooLong) ≡ refused k
         → next {B = Format × Trace} (cond t (trace f b) (refused tooLong)) (λ t. accepted (f, t)) ≡ refused k
-    by true e = rw (trace-refused f b n k w z other (rw (opened f b n k w z) at e))
+    by true e = rw (trace-refused f b n k w z other (rw (opened (starts f b n k w z)) at e))
     by false e = ap refused (refused-one e)

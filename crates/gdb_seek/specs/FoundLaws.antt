@@ -26,7 +26,7 @@ use Rattle.gdb_frames.specs.Places.{part}
 use Rattle.gdb_frames.specs.Questions.{dataIn}
 use Rattle.gdb_frames.specs.PlaceLaws.{InFile}
 use Rattle.gdb_seek.specs.Walk.{Walk, walkTo}
-use Rattle.gdb_seek.specs.Found.{judged, foundBehind, foundIn, frameFound, dataFound}
+use Rattle.gdb_seek.specs.Found.{judged, foundIn, frameFound, dataFound}
 use Rattle.gdb_seek.specs.Turns.{arrived, reached-within}
 
 -- ---- the blocks of the frame that a walk has reached

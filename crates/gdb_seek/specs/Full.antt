@@ -4,32 +4,30 @@ use mathlib.Core.Path.{_≡_, refl, sym, ap, _∙_}
 use mathlib.Core.Option.{Option}
 use Prim.Native.Nat.{ℕ, _+_, _≤_}
 use native.Mathlib.Numerals.{add-one}
-use mathlib.Core.List.{List, [], _++_}
+use mathlib.Core.List.{List, _++_}
 use lib.ListN.{length, take}
 use lib.Seq.{take-at}
 use borrow.Author.Tests.{le-leb}
 use Rattle.refusals.specs.Refusal.{limit}
-use Rattle.fields.specs.Lists.{concatMap, Each, each-map}
+use Rattle.fields.specs.Lists.{concatMap, each-map}
 use Rattle.fields.specs.Number.{Bytes}
-use Rattle.fields.specs.Answer.{Answer, accepted, refused, next, next-inv}
+use Rattle.fields.specs.Answer.{Answer, accepted, refused, next}
 use Rattle.fields.specs.Element.{nth, each-nth}
-use Rattle.gdb_format.specs.Settings.{settingsOf}
 use Rattle.gdb_format.specs.Trace.{Frame, Trace, opening, headIn, putFrame, putMark, dataOf, encode}
 use Rattle.gdb_format.specs.Lines.{registerSize}
 use Rattle.gdb_format.specs.Layout.{FrameFits}
-use Rattle.gdb_format.specs.Decode.{blocks, openingLines, read}
-use Rattle.gdb_format.specs.ExactFrame.{HeadFits}
-use Rattle.gdb_format.specs.ExactLines.{exact-opening}
+use Rattle.gdb_format.specs.Decode.{read}
 use Rattle.gdb_format.specs.Exactness.{read-exactness}
 use Rattle.gdb_format.specs.declared.Settings.{Settings}
 use Rattle.gdb_format.specs.declared.Format.{Format}
-use Rattle.gdb_read.specs.Steps.{Row, headSeen, frameSeen}
+use Rattle.gdb_read.specs.Steps.{Row, frameSeen}
 use Rattle.gdb_frames.specs.Places.{framesAt, part}
 use Rattle.gdb_frames.specs.Questions.{frameRow, dataIn, frameData}
 use Rattle.gdb_frames.specs.File.{File, file-of, frames-behind}
 use Rattle.gdb_frames.specs.PlaceLaws.{placed-is, data-behind}
 use Rattle.gdb_seek.specs.Walk.{walkTo}
 use Rattle.gdb_seek.specs.Found.{foundBehind, foundIn, frameFound}
+use Rattle.gdb_seek.specs.Openings.{Opens, opened}
 use Rattle.gdb_seek.specs.Heads.{walk-laid}
 use Rattle.gdb_seek.specs.Stands.{heads-read, blocks-of}
 
@@ -69,10 +67,9 @@ module _ (f : Format) (b : List ℕ) (t : Trace) (i : File f b t) (n : ℕ) wher
   file-full : foundIn f b n ≡ counted n (frameData n f t)
   unfolding encode
   file-full =
-      let opened : openingLines f b ≡ accepted (t .lines, concatMap (putFrame f) (t .frames) ++ putMark (t .marked)) =
-      ap (openingLines f) (sym (i .laid-out)) ∙ (exact-opening f) .back (t .lines) _ (i .fits .lines-fit) in
+      let o : Opens f b (t .lines) (concatMap (putFrame f) (t .frames) ++ putMark (t .marked)) = record { fits = i .fits .lines-fit; laid-out = i .laid-out } in
       let short : length b ≤ limit = rw (← i .laid-out) (i .fits .length-fits) in
-      rw (le-leb (length b) limit short, opened) behind-full
+      rw (le-leb (length b) limit short, opened o) behind-full
 
 -- the data of frame n of the trace that the file holds, and n + 1 heads
 pub found-full : (s : Settings) (b : List ℕ) (f : Format) (t : Trace) (n : ℕ) → Bytes b → read s b ≡ accepted (f, t)

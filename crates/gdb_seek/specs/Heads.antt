@@ -3,7 +3,7 @@
 use mathlib.Core.Path.{_≡_, refl, sym, ap, _∙_}
 use mathlib.Core.Bool.{Bool, true, false, cond}
 use mathlib.Core.Option.{Option, none, some}
-use Prim.Native.Nat.{ℕ, zero, suc, _+_, _<_, _≤_}
+use Prim.Native.Nat.{ℕ, zero, suc, _+_, _≤_}
 use native.Mathlib.Nat.{add-zero}
 use native.Mathlib.Omega.{arith}
 use mathlib.Core.List.{List, [], _∷_, _++_, append-assoc}
@@ -13,7 +13,7 @@ use Rattle.refusals.specs.Refusal.{notFound}
 use Rattle.fields.specs.Lists.{concatMap, Each, clash, part-there}
 use Rattle.fields.specs.Number.{Bytes, bytes-drop}
 use Rattle.fields.specs.Word.{sameBytes, same-bytes}
-use Rattle.fields.specs.Answer.{Answer, accepted, refused, next, accepted-one, refused-one, never}
+use Rattle.fields.specs.Answer.{Answer, accepted, refused, next, refused-one, never}
 use Rattle.fields.specs.Reader.{stepAt}
 use Rattle.fields.specs.At.{step-read, step-end}
 use Rattle.fields.specs.Element.{nth}

@@ -3,6 +3,7 @@ pub mod Found
 pub mod Turns
 pub mod FoundLaws
 pub mod Numbers
+pub mod Openings
 pub mod Heads
 pub mod Unread
 pub mod Stands

@@ -1,6 +1,6 @@
 -- Which parts are read of a file where frame n is found: the opening, six bytes at each of n + 1 places, and the data of frame n.
 -- Assumes nothing.
-use mathlib.Core.Path.{_≡_, refl, sym, ap, ap₂, _∙_}
+use mathlib.Core.Path.{_≡_, sym, ap, ap₂, _∙_}
 use mathlib.Core.Bool.{Bool, true, false, cond}
 use Prim.Native.Nat.{ℕ, _+_, _≤_}
 use native.Mathlib.Numerals.{add-one}
@@ -11,14 +11,13 @@ use lib.Dec.{leb, eqb}
 use Rattle.refusals.specs.Refusal.{limit, tooLong, badHead, badLine}
 use Rattle.fields.specs.Number.{Bytes}
 use Rattle.fields.specs.Word.{starts}
-use Rattle.fields.specs.Answer.{Answer, accepted, refused, next, next-inv, never, accepted-inj, accepted-one, cond-inv}
+use Rattle.fields.specs.Answer.{Answer, accepted, refused, next-inv, never, accepted-inj, accepted-one, cond-inv}
 use Rattle.fields.specs.Reader.{refuse, bytes}
 use Rattle.fields.specs.Takes.{bytes-inv}
 use Rattle.gdb_format.specs.Settings.{settingsOf}
 use Rattle.gdb_format.specs.Trace.{head, opening}
 use Rattle.gdb_format.specs.Lines.{mayFollow, registerSize}
 use Rattle.gdb_format.specs.Decode.{blocks, description, openingLines}
-use Rattle.gdb_format.specs.ExactLines.{exact-opening}
 use Rattle.gdb_format.specs.declared.Settings.{Settings}
 use Rattle.gdb_format.specs.declared.Format.{Format}
 use Rattle.gdb_read.specs.Steps.{Row}
@@ -26,6 +25,7 @@ use Rattle.gdb_frames.specs.Places.{part}
 use Rattle.gdb_frames.specs.Questions.{dataIn}
 use Rattle.gdb_seek.specs.Walk.{walkTo}
 use Rattle.gdb_seek.specs.Found.{foundIn, frameFound, described, openingRead, headPart, partsRead}
+use Rattle.gdb_seek.specs.Openings.{opens}
 use Rattle.gdb_seek.specs.Stands.{heads-read}
 
 module _ (f : Format) where
@@ -63,7 +63,7 @@ module _ (f : Format) where
   -- an opening that is let through is read as far as it goes
   opening-read : (b : List ℕ) (ls : List (List ℕ)) (rest : List ℕ) → Bytes b → openingLines f b ≡ accepted (ls, rest) → openingRead f b ≡ length (opening ls)
   opening-read b ls rest h e =
-      omega (arith, opening-left b ls rest e, ap length ((exact-opening f) .forth b ls rest h e .1), length-append (opening ls) rest)
+      omega (arith, opening-left b ls rest e, ap length (opens f b ls rest h e .laid-out), length-append (opening ls) rest)
 
 -- the parts read of a file with this opening, for the data x, by these places of heads
 abbrev pub PartsAre : List (ℕ × ℕ) → List (List ℕ) → List ℕ → ℕ × ℕ → Type 0
@@ -91,7 +91,7 @@ parts-found s b n x h e =
     let ats = walkTo f b n at .visited in (
       ls,
       o .0 .1,
-      (exact-opening f) .forth b ls (o .0 .1) h (o .1) .1,
+      opens f b ls (o .0 .1) h (o .1) .laid-out,
       ats,
       heads-read f b n at (r .0) (r .1) ∙ sym (add-one n),
       parts-of s b n f (o .0) (r .0) (y .1) (c .0) (o .1) (r .1)

@@ -9,7 +9,7 @@ use native.Mathlib.Nat.{add-zero}
 use native.Mathlib.Numerals.{add-one}
 use native.Mathlib.Omega.{arith}
 use mathlib.Core.List.{List, [], _∷_, _++_, append-assoc, append-nil}
-use lib.ListN.{length, take, drop, length-append}
+use lib.ListN.{length, drop, length-append}
 use lib.Dec.{leb}
 use lib.Seq.{drop-drop, drop-at}
 use borrow.Author.Tests.{le-leb, leb-true}
@@ -17,7 +17,6 @@ use Rattle.refusals.specs.Refusal.{limit, tooLong, notFound}
 use Rattle.fields.specs.Lists.{concatMap, Each, each-append, concatMap-append}
 use Rattle.fields.specs.Number.{Bytes, bytes-front, bytes-back, bytes-drop}
 use Rattle.fields.specs.Answer.{Answer, accepted, refused, next, next-inv, refused-inv, never, accepted-inj, accepted-one, refused-one, cond-inv}
-use Rattle.fields.specs.Refuses.{Refuses, OneOf}
 use Rattle.fields.specs.Element.{nth}
 use Rattle.gdb_format.specs.Settings.{settingsOf}
 use Rattle.gdb_format.specs.Trace.{Block, Frame, opening, headIn, putData, putFrame, putMark, dataOf}
@@ -26,15 +25,15 @@ use Rattle.gdb_format.specs.Layout.{LinesFit, FrameFits}
 use Rattle.gdb_format.specs.Decode.{blocks, frameHead, frame, openingLines}
 use Rattle.gdb_format.specs.Numbers.{settings-numbers, opening-numbers, blocks-numbers}
 use Rattle.gdb_format.specs.ExactFrame.{HeadFits, exact-head, exact-frame}
-use Rattle.gdb_format.specs.ExactLines.{exact-opening}
 use Rattle.gdb_format.specs.declared.Settings.{Settings}
 use Rattle.gdb_format.specs.declared.Format.{Format}
 use Rattle.gdb_read.specs.Steps.{Row, headSeen}
 use Rattle.gdb_frames.specs.Places.{placed, part}
 use Rattle.gdb_frames.specs.Questions.{dataIn}
-use Rattle.gdb_seek.specs.Walk.{Walk, headOrEnd, past, walkTo}
-use Rattle.gdb_seek.specs.Found.{judged, foundBehind, foundIn, frameFound}
-use Rattle.gdb_seek.specs.Heads.{Laid, Passed, walked-past, Short, walked-short, walk-laid, data-here}
+use Rattle.gdb_seek.specs.Walk.{headOrEnd, past, walkTo}
+use Rattle.gdb_seek.specs.Found.{foundBehind, foundIn, frameFound}
+use Rattle.gdb_seek.specs.Openings.{Opens, opens, opened, behind-opening}
+use Rattle.gdb_seek.specs.Heads.{Passed, walked-past, Short, walked-short, walk-laid, data-here}
 
 -- ---- how many heads are read
 
@@ -69,6 +68,9 @@ abbrev pub headPlace : {f : Format} {b : List ℕ} {n : ℕ} → Stands f b n �
 headPlace {f} z = length (opening (z .lines)) + length (concatMap (putData f) (z .earlier))
 
 module _ {f : Format} {b : List ℕ} {n : ℕ} (z : Stands f b n) where
+  starts : Opens f b (z .lines) (concatMap (putData f) (z .earlier) ++ (putFrame f (z .found) ++ z .rest))
+  starts = record { fits = z .lines-fit; laid-out = z .laid-out }
+
   head-there : drop (headPlace z) b ≡ putFrame f (z .found) ++ z .rest
   head-there =
       let o = opening (z .lines) in
@@ -110,20 +112,7 @@ module _ (f : Format) (size : Option ℕ) where
 -- ---- the answer
 
 module _ (f : Format) (b : List ℕ) (n : ℕ) (w : Bytes b) where
-  -- lines that open the file
-  abbrev Opens : List (List ℕ) → List ℕ → Type 0
-  Opens ls more = LinesFit f ls × (opening ls ++ more ≡ b)
-
-  opens : (ls : List (List ℕ)) (more : List ℕ) → openingLines f b ≡ accepted (ls, more) → Opens ls more
-  opens ls more e = (exact-opening f) .forth b ls more w e
-
-  behind : (ls : List (List ℕ)) (more : List ℕ) → Opens ls more → drop (length (opening ls)) b ≡ more
-  behind ls more o = ap (drop (length (opening ls))) (sym (o .1)) ∙ drop-at (opening ls) more (length (opening ls)) refl
-
-  opened : (ls : List (List ℕ)) (more : List ℕ) → LinesFit f ls → opening ls ++ more ≡ b → openingLines f b ≡ accepted (ls, more)
-  opened ls more g e = ap (openingLines f) (sym e) ∙ (exact-opening f) .back ls more g
-
-  module _ (ls : List (List ℕ)) (more : List ℕ) (o : Opens ls more) where
+  module _ (ls : List (List ℕ)) (more : List ℕ) (o : Opens f b ls more) where
     abbrev size : Option ℕ
     size = registerSize f ls
 
@@ -156,11 +145,11 @@ module _ (f : Format) (b : List ℕ) (n : ℕ) (w : Bytes b) where
           earlier = p .0;
           found = v;
           rest = p .2;
-          lines-fit = o .0;
+          lines-fit = o .fits;
           earlier-fit = p .5 .0;
           found-fits = g .0;
           so-many = p .3;
-          laid-out = rw same (ap (λ d. opening ls ++ d) (sym (p .5 .1) ∙ behind ls more o) ∙ o .1);
+          laid-out = rw same (ap (λ d. opening ls ++ d) (sym (p .5 .1) ∙ behind-opening o) ∙ o .laid-out);
         } in
         (z, ap dataIn (sym (p .6)) ∙ ap (λ d. (headPlace z + 6, length d)) (sym (ap (λ (x : ℕ × List ℕ). x .1) (g .1))), i ∙ sym (add-one n))
 
@@ -172,7 +161,7 @@ module _ (f : Format) (b : List ℕ) (n : ℕ) (w : Bytes b) where
       let u = next-inv (walkTo f b n at .reached) _ (q .2) in
       let v = next-inv (blocks f (registerSize f ls) (part b (accepted (dataIn (u .0)))) []) _ (u .2) in
       subst (Says f b n) (accepted-one (v .2))
-      (stands ls (q .0 .1) (opens ls (q .0 .1) (q .1)) (u .0) (walked-past f b w n at (u .0) (u .1)) (v .0) (v .1)
+      (stands ls (q .0 .1) (opens f b ls (q .0 .1) w (q .1)) (u .0) (walked-past f b w n at (u .0) (u .1)) (v .0) (v .1)
       (length (walkTo f b n at .visited)) (heads-read f b n at (u .0) (u .1)))
 
   -- the last of heads that are laid out one after another
@@ -192,7 +181,7 @@ module _ (f : Format) (b : List ℕ) (n : ℕ) (w : Bytes b) where
       let g = z .found-fits in
       let at = length (opening (z .lines)) in
       let laid : drop at b ≡ concatMap (putData f) (hs ++ h ∷ []) ++ z .rest =
-      behind (z .lines) _ (z .lines-fit, z .laid-out)
+      behind-opening (starts z)
       ∙ sym (ap (λ d. d ++ z .rest) (concatMap-append (putData f) hs (h ∷ []) ∙ ap (λ d. concatMap (putData f) hs ++ d) (append-nil (putData f h)))
       ∙ append-assoc (concatMap (putData f) hs) (putData f h) (z .rest)) in
       let few : length (hs ++ h ∷ []) ≤ n → ⊥ = λ k. omega (arith, k, length-append hs (h ∷ []), z .so-many) in
@@ -208,7 +197,7 @@ module _ (f : Format) (b : List ℕ) (n : ℕ) (w : Bytes b) where
       let w = walkTo f b n (length (opening (z .lines))) in
       let q = blocks-of f size (z .found) (z .found-fits) in
       let count : length (w .visited) ≡ n + 1 = heads-read f b n (length (opening (z .lines))) _ (walk-reaches z) ∙ sym (add-one n) in
-      ap (λ o. next o (λ o. foundBehind f b n (o .0))) (opened (z .lines) _ (z .lines-fit) (z .laid-out))
+      ap (λ o. next o (λ o. foundBehind f b n (o .0))) (opened (starts z))
       ∙ rw (walk-reaches z, data-stands z, q .1) (ap₂ (λ d k. accepted (d, k)) (sym (y .1)) (count ∙ sym (y .2)))
 
 -- An answer is given exactly where the file, of which no more is said, starts with an opening and n heads, each followed by as much data as it says,
@@ -239,15 +228,15 @@ pub record Ends (f : Format) (b : List ℕ) (n : ℕ) : Type 0 where
 module _ (f : Format) (b : List ℕ) (n : ℕ) (w : Bytes b) where
   ends-of : (ls : List (List ℕ)) (more : List ℕ) → openingLines f b ≡ accepted (ls, more) → Short f b w n (length (opening ls)) → Ends f b n
   ends-of ls more e h =
-      let o = opens f b n w ls more e in
+      let o = opens f b ls more w e in
       record {
         lines = ls;
         earlier = h .0;
         marked = h .1;
-        lines-fit = o .0;
+        lines-fit = o .fits;
         earlier-fit = h .3 .0;
         too-few = h .2;
-        laid-out = ap (λ d. opening ls ++ d) (sym (h .3 .1) ∙ behind f b n w ls more o) ∙ o .1;
+        laid-out = ap (λ d. opening ls ++ d) (sym (h .3 .1) ∙ behind-opening o) ∙ o .laid-out;
       }
 
   -- blocks refuse with other numbers
@@ -275,12 +264,13 @@ module _ (f : Format) (b : List ℕ) (n : ℕ) (w : Bytes b) where
 
   ends-missing : Ends f b n → next (openingLines f b) (λ o. foundBehind f b n (o .0)) ≡ refused notFound
   ends-missing z =
+      let o : Opens f b (z .lines) (concatMap (putData f) (z .earlier) ++ putMark (z .marked)) = record { fits = z .lines-fit; laid-out = z .laid-out } in
       let at = length (opening (z .lines)) in
       let none-there : walkTo f b n at .reached ≡ refused notFound =
       walk-laid f b (λ h. h) n (z .earlier) at (putMark (z .marked)) (λ k. (z .marked, refl)) (z .earlier-fit)
-      (behind f b n w (z .lines) _ (z .lines-fit, z .laid-out))
+      (behind-opening o)
       ∙ ap (λ x. next x (λ r. accepted (headSeen (r .0) (r .1)))) (none-placed (z .earlier) at n (z .too-few)) in
-      ap (λ o. next o (λ o. foundBehind f b n (o .0))) (opened f b n w (z .lines) _ (z .lines-fit) (z .laid-out)) ∙ rw none-there
+      ap (λ o. next o (λ o. foundBehind f b n (o .0))) (opened o) ∙ rw none-there
 
 -- 12 is given exactly where the file's end or the end mark comes first.
 pub missing-exactly : (s : Settings) (b : List ℕ) (n : ℕ) → Bytes b

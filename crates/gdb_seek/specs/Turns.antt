@@ -3,10 +3,10 @@
 use mathlib.Core.Path.{_≡_, refl, sym, ap, _∙_}
 use mathlib.Core.Bool.{Bool, false}
 use mathlib.Core.Option.{Option, none, some}
-use Prim.Native.Nat.{ℕ, zero, suc, _+_, _-_, _<_, _≤_}
+use Prim.Native.Nat.{ℕ, zero, suc, _+_, _-_, _≤_}
 use native.Mathlib.Nat.{zero-add}
 use native.Mathlib.Omega.{arith}
-use mathlib.Core.List.{List, [], _∷_, _++_}
+use mathlib.Core.List.{List, [], _∷_}
 use lib.ListN.{length, drop, length-append, length-drop}
 use Rattle.refusals.specs.Refusal.{notFound}
 use Rattle.fields.specs.Lists.{clash}
@@ -18,11 +18,11 @@ use Rattle.fields.specs.At.{Turn, walk-more}
 use Rattle.gdb_format.specs.Trace.{mark, putData}
 use Rattle.gdb_format.specs.Decode.{frameHead, ending}
 use Rattle.gdb_format.specs.FrameBytes.{frame-long}
-use Rattle.gdb_format.specs.ExactFrame.{HeadFits, exact-head, takes-head}
+use Rattle.gdb_format.specs.ExactFrame.{exact-head, takes-head}
 use Rattle.gdb_format.specs.declared.Format.{Format}
 use Rattle.gdb_read.specs.Steps.{Row, headSeen, headMeaning}
 use Rattle.gdb_frames.specs.Nth.{foundBy}
-use Rattle.gdb_seek.specs.Walk.{beforeEnd, headOrEnd, Walk, endsAt, goesOn, past, walkTo}
+use Rattle.gdb_seek.specs.Walk.{beforeEnd, headOrEnd, Walk, goesOn, past, walkTo}
 use Rattle.gdb_seek.specs.declared.Reached.{Reached}
 use Rattle.gdb_seek.specs.declared.Reached.the-variants.{Head, Refused}
 

@@ -14,7 +14,6 @@ use lib.Dec.{leb, eqb}
 use lib.Seq.{take-all, take-take, take-add, drop-at, length-take-le}
 use borrow.Author.Tests.{le-leb, lt-leb}
 use Rattle.refusals.specs.Refusal.{limit, tooLong, dataPastFile, badHead, badLine, badMark}
-use Rattle.fields.specs.Lists.{Each}
 use Rattle.fields.specs.Number.{number}
 use Rattle.fields.specs.Word.{starts, sameBytes, same-bytes}
 use Rattle.fields.specs.Answer.{Answer, accepted, refused, next, never, accepted-one, refused-one}
@@ -27,10 +26,9 @@ use Rattle.gdb_format.specs.Decode.{blocks, numbered, frameHead, ending, descri
 use Rattle.gdb_format.specs.declared.Settings.{Settings}
 use Rattle.gdb_format.specs.declared.Format.{Format}
 use Rattle.gdb_read.specs.Steps.{Row, headSeen}
-use Rattle.gdb_frames.specs.Nth.{foundBy}
 use Rattle.gdb_frames.specs.Places.{part}
 use Rattle.gdb_frames.specs.Questions.{dataIn}
-use Rattle.gdb_seek.specs.Walk.{beforeEnd, headOrEnd, Walk, goesOn, past, walkTo}
+use Rattle.gdb_seek.specs.Walk.{headOrEnd, Walk, goesOn, past, walkTo}
 use Rattle.gdb_seek.specs.Found.{judged, foundBehind, foundIn, frameFound, described, openingRead, headPart, dataPart, walkParts, partsOn, partsIn, partsRead, AgreeOn}
 
 -- ---- lists of one length that agree on a front

@@ -1,5 +1,5 @@
 -- `gdb_seek::frame_data` meets its contract. Assumes nothing.
-use mathlib.Core.Path.{sym, ap, _∙_}
+use mathlib.Core.Path.{ap, _∙_}
 use mathlib.Core.List.{[]}
 use Rattle.fields.specs.Number.{Bytes}
 use Rattle.fields.specs.Answer.{accepted, next}
