@@ -126,13 +126,14 @@ pub fn mark_length(marked: bool) -> usize
     0
 }
 
-enum Count {
+// So many frames, and whether the end mark stands behind them; or the refusal of the first that does not fit.
+pub enum Count {
     Frames { count: usize, marked: bool },
     Refused(u8),
 }
 
 // How many frames stand in `s` from `from` on, up to its end or to the end mark.
-fn frames_from(format: Format, size: RegisterSize, s: &[u8], from: usize) -> Count
+pub fn frames_from(format: Format, size: RegisterSize, s: &[u8], from: usize) -> Count
     ensures { λ r. ⌜ framesMeaning r ≡ framesCounted format (sizeMeaning size) (drop from (now (s .entry))) ⌝ }
 {
     let mut at = from;

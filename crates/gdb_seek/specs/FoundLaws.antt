@@ -42,18 +42,6 @@ module _ (f : Format) (size : Option ℕ) (b : List ℕ) (w : Walk) where
         let i = accepted-inj (q .2) in
         (q .1 ∙ ap accepted (i .0), i .1)
 
-    -- by the blocks in the part of the file that ends with its data
-    pub judged-by : r .place + r .size ≤ length b
-        → next (blocksFill f size false (drop (r .place) (take (r .place + r .size) b))) (λ u. accepted (dataIn r, k)) ≡ judged f size b w
-    unfolding blocks
-    judged-by l =
-        rw (part-front b (r .place) (r .size) l, here .0, here .1)
-        (by (toEndAfter (blockAfter f size) seenAfter false (part b (accepted (dataIn r)))))
-      where
-        by : (x : Answer (List Block)) → next {B = (ℕ × ℕ) × ℕ} (next x (λ bs. accepted (tt {0}))) (λ u. accepted (dataIn r, k))
-            ≡ next (next {B = List Block × List ℕ} x (λ bs. accepted (bs, []))) (λ q. accepted (dataIn r, k))
-        by (accepted bs) = refl
-        by (refused j) = refl
 
 -- ---- the file
 

@@ -161,6 +161,18 @@ module _ (f : Format) (b : List ℕ) (w : Bytes b) where
             ap (λ a. headSeen a (p .1)) long ∙ p .6,
           )
 
+  -- the last of them, where it stands, and its data
+  module _ (n at : ℕ) (r : Row) (p : Passed n at r) where
+    pub passed-there : drop (at + length (concatMap (putData f) (p .0))) b ≡ putData f (p .1) ++ p .2
+    passed-there =
+        let hs = concatMap (putData f) (p .0) in
+        sym (drop-drop (length hs) at b) ∙ ap (drop (length hs)) (p .5 .1) ∙ drop-at hs (putData f (p .1) ++ p .2) (length hs) refl
+
+    pub own-data : part b (accepted (dataIn r)) ≡ p .1 .1
+    own-data =
+        ap (λ v. part b (accepted (dataIn v))) (sym (p .6))
+        ∙ data-here f b (at + length (concatMap (putData f) (p .0))) (p .1) (p .2) passed-there
+
   -- at most n heads, and then the end
   abbrev pub Short : ℕ → ℕ → Type 0
   Short n at = (hs : List (ℕ × List ℕ)) × (m : Bool) × (length hs ≤ n) × Laid f b at hs (putMark m)

@@ -5,6 +5,7 @@ pub mod FoundLaws
 pub mod Numbers
 pub mod Openings
 pub mod Heads
+pub mod Judged
 pub mod Unread
 pub mod Stands
 pub mod Full

@@ -33,7 +33,7 @@ use Rattle.gdb_frames.specs.Questions.{dataIn}
 use Rattle.gdb_seek.specs.Walk.{headOrEnd, past, walkTo}
 use Rattle.gdb_seek.specs.Found.{foundBehind, foundIn, frameFound}
 use Rattle.gdb_seek.specs.Openings.{Opens, opens, opened, behind-opening}
-use Rattle.gdb_seek.specs.Heads.{Passed, walked-past, Short, walked-short, walk-laid, data-here}
+use Rattle.gdb_seek.specs.Heads.{Passed, walked-past, Short, walked-short, walk-laid, data-here, own-data}
 
 -- ---- how many heads are read
 
@@ -119,15 +119,6 @@ module _ (f : Format) (b : List ℕ) (n : ℕ) (w : Bytes b) where
     abbrev start : ℕ
     start = length (opening ls)
 
-    -- the data that the head shows are the head's own
-    own-data : (r : Row) (p : Passed f b w n start r) → part b (accepted (dataIn r)) ≡ p .1 .1
-    own-data r p =
-        let h = p .1 in
-        let hs = concatMap (putData f) (p .0) in
-        let at = start + length hs in
-        let there : drop at b ≡ putData f h ++ p .2 = sym (drop-drop (length hs) start b) ∙ ap (drop (length hs)) (p .5 .1) ∙ drop-at hs (putData f h ++ p .2) (length hs) refl in
-        ap (λ r. part b (accepted (dataIn r))) (sym (p .6)) ∙ data-here f b at h (p .2) there
-
     head-bytes : (r : Row) (p : Passed f b w n start r) → Bytes (putData f (p .1))
     head-bytes r p =
         bytes-front (putData f (p .1)) (p .2)
@@ -137,7 +128,7 @@ module _ (f : Format) (b : List ℕ) (n : ℕ) (w : Bytes b) where
         → (k : ℕ) → k ≡ suc n → Says f b n (dataIn r, k)
     stands r p q e k i =
         let h = p .1 in
-        let g = frame-of f size h q (p .4) (head-bytes r p) (rw (own-data r p) at e) in
+        let g = frame-of f size h q (p .4) (head-bytes r p) (rw (own-data f b w n start r p) at e) in
         let v : Frame = record { tracepoint = h .0; blocks = q .0 } in
         let same : putFrame f v ≡ putData f h = ap (putData f) (g .1) in
         let z : Stands f b n = record {

@@ -7,13 +7,13 @@ ghost use Rattle.gdb_frames.specs.Questions.{Handed};
 ghost use Rattle.gdb_seek.specs.Walk.{headOrEnd, walkTo};
 ghost use Rattle.gdb_seek.specs.Found.{judged, foundIn, frameFound, dataFound, frameAnswerMeaning};
 ghost use Rattle.gdb_seek.specs.Turns.{reachedMeaning, arrived};
-use gdb_data::Verdict;
 use gdb_format::Checked;
 use gdb_format::Format;
 use gdb_format::Opening;
 use gdb_format::RegisterSize;
 use gdb_format::Settings;
 use gdb_frames::PlaceAnswer;
+use gdb_read::Count;
 use gdb_read::FrameHead;
 use gdb_read::FrameStep;
 use refusals::LIMIT;
@@ -72,7 +72,8 @@ pub enum FrameAnswer {
     Refused(u8),
 }
 
-// The frame that a walk from `from` reaches, with its blocks.
+// The frame that a walk from `from` reaches. It is judged as the one frame of the file up to its end, by the whole reading's own walk: a second caller
+// of the walk over blocks would keep that from being inlined there, and cost the whole reading half as much again for short frames.
 fn frame_behind(
     format: Format,
     size: RegisterSize,
@@ -91,9 +92,12 @@ fn frame_behind(
                 size: length,
             } = head;
             let end = place + length;
-            match gdb_data::blocks_from(format, size, &file[..end], place) {
-                Verdict::Refused(k) => FrameAnswer::Refused(k),
-                Verdict::Sound => FrameAnswer::At {
+            match gdb_read::frames_from(format, size, &file[..end], place - 6) {
+                Count::Refused(k) => FrameAnswer::Refused(k),
+                Count::Frames {
+                    count: _,
+                    marked: _,
+                } => FrameAnswer::At {
                     place,
                     length,
                     heads,
