@@ -32,11 +32,18 @@ count-one n (refused k) r = refl
 
 -- a walk from `from` that has come to `at` over n frames: they and those of the rest are those of the whole
 pub record Counting (f : Format) (size : Option ℕ) (s : List ℕ) (from at n : ℕ) : Type 0 where
+  pub inside : at ≤ length s
   pub few : n ≤ at
   pub same : countedFrom n (frames f size (drop at s)) ≡ framesCounted f size (drop from s)
 
-pub count-starts : (f : Format) (size : Option ℕ) (s : List ℕ) (from : ℕ) → Counting f size s from from 0
-count-starts f size s from = record { few = omega arith; same = count-none (frames f size (drop from s)) }
+pub count-starts : (f : Format) (size : Option ℕ) (s : List ℕ) (from : ℕ) → from ≤ length s → Counting f size s from from 0
+count-starts f size s from h = record { inside = h; few = omega arith; same = count-none (frames f size (drop from s)) }
+
+-- none stand behind the end
+pub count-past : (f : Format) (size : Option ℕ) (s : List ℕ) (from : ℕ) → length s < from → accepted (0, false) ≡ framesCounted f size (drop from s)
+count-past f size s from h =
+    let i : length s ≤ from = omega (arith, h) in
+    sym (ap (framesCounted f size) (drop-of-length-le s i) ∙ rw (frames-ended f size false))
 
 -- the frame that was met: where it lies, and the walk behind it
 pub record Counted (f : Format) (size : Option ℕ) (s : List ℕ) (from at n m : ℕ) : Type 0 where
@@ -70,6 +77,7 @@ module _ {f : Format} {size : Option ℕ} {s : List ℕ} {from at n : ℕ} (w : 
         later = t .later;
         within = t .within;
         onward = record {
+          inside = t .within;
           few = omega (arith, w .few, t .later);
           same =
               sym (ap (countedFrom n) (frames-more f size (drop at s) (t .element) (drop m s) (t .read)) ∙ count-one n (frames f size (drop m s)) (t .element))

@@ -1,6 +1,6 @@
 // Reading a GDB trace: what frame stands at a place, and the whole file.
 ghost use mathlib.Core.Path.{_≡_};
-ghost use Prim.Native.Nat.{_-_, _<_};
+ghost use Prim.Native.Nat.{_-_, _<_, _≤_};
 ghost use lib.ListN.{length, take, drop};
 ghost use Rattle.fields.specs.Answer.{refused};
 ghost use Rattle.fields.specs.Word.{sameBytes};
@@ -103,17 +103,25 @@ pub fn frame_at(format: Format, size: RegisterSize, s: &[u8], at: usize) -> Fram
     }
 }
 
-// Whether the end mark stands at `at`: exactly four bytes to the end, all 0.
+// Whether the end mark stands at a place that is not behind the end: exactly four bytes to the end, all 0.
+fn mark_here(s: &[u8], at: usize) -> bool
+    requires { ⌜ at ≤ length (now s) ⌝ }
+    ensures { λ r. ⌜ r ≡ sameBytes (drop at (now (s .entry))) mark ⌝ }
+{
+    if s.len() - at != 4 {
+        return false;
+    }
+    fields::u32_at(s, Order::Little, at) == 0
+}
+
+// Whether the end mark stands at `at`.
 pub fn mark_at(s: &[u8], at: usize) -> bool
     ensures { λ r. ⌜ r ≡ sameBytes (drop at (now (s .entry))) mark ⌝ }
 {
     if s.len() < at {
         return false;
     }
-    if s.len() - at != 4 {
-        return false;
-    }
-    fields::u32_at(s, Order::Little, at) == 0
+    mark_here(s, at)
 }
 
 // How many bytes the end mark takes, where there is one.
@@ -132,14 +140,20 @@ pub enum Count {
     Refused(u8),
 }
 
-// How many frames stand in `s` from `from` on, up to its end or to the end mark.
+// How many frames stand in `s` from `from` on, up to its end or to the end mark. Behind the end stand none: tested once, and no turn tests it.
 pub fn frames_from(format: Format, size: RegisterSize, s: &[u8], from: usize) -> Count
     ensures { λ r. ⌜ framesMeaning r ≡ framesCounted format (sizeMeaning size) (drop from (now (s .entry))) ⌝ }
 {
+    if s.len() < from {
+        return Count::Frames {
+            count: 0,
+            marked: false,
+        };
+    }
     let mut at = from;
     let mut n: usize = 0;
     loop {
-        if mark_at(s, at) {
+        if mark_here(s, at) {
             return Count::Frames {
                 count: n,
                 marked: true,

@@ -42,7 +42,6 @@ module _ (f : Format) (size : Option ℕ) (b : List ℕ) (w : Walk) where
         let i = accepted-inj (q .2) in
         (q .1 ∙ ap accepted (i .0), i .1)
 
-
 -- ---- the file
 
 module _ (f : Format) (b : List ℕ) (n : ℕ) where

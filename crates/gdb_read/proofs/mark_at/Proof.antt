@@ -1,6 +1,5 @@
 -- `gdb_read::mark_at` meets its contract. Assumes nothing.
-use Rattle.gdb_read.proofs.Marks.{mark-past, mark-other, mark-word}
-use Rattle.fields.specs.Given.{bytes-given}
+use Rattle.gdb_read.proofs.Marks.{mark-past}
 use borrow.Author.Needs.{needs}
 use native.Mathlib.Omega.{arith}
 use Rattle.gdb_read.proofs.mark_at.Statement.{statement}
@@ -12,21 +11,5 @@ returns c =
     let a = start .args in
     mark-past (a .s .now) (a .at) (omega arith)
 
-returns-2 : tie.Need-returns-2
-returns-2 c =
-    let start : tie.Start = search in
-    let a = start .args in
-    mark-other (a .s .now) (a .at) (λ e. omega arith)
-
-returns-3 : tie.Need-returns-3
-returns-3 c =
-    let start : tie.Start = search in
-    let slice : tie.After-shared-slice-known = search in
-    let a = start .args in
-    mark-word (a .s .now) (a .at) (bytes-given (a .s .now) (slice .shared-slice-known .given)) (omega arith) (omega arith)
-    (c .u32-at .result) (c .u32-at .ensures)
-
 pub mark-at-spec : {M : Type 1} → statement M
-mark-at-spec =
-    tie.close
-    (tie.spec returns (λ c. search needs) returns-2 (λ c κs. search needs) returns-3)
+mark-at-spec = tie.close (tie.spec returns (λ c κs. omega arith) (λ c. c .mark-here .ensures))
