@@ -154,7 +154,7 @@ tfk_count tfk_frame_table(tfk_settings settings, const uint8_t *file, size_t fil
 tfk_line tfk_line_place(tfk_settings settings, const uint8_t *file, size_t file_length, size_t j);
 
 /* The data of frame n. Of the file only these parts are read: the opening, the heads of frames 0 to n (or up to six bytes where one should start) and the
- * blocks of frame n. So the call costs what these parts cost, and it answers also where the file is at fault elsewhere; every other call reads the whole file.
+ * blocks of frame n. So the call costs what these parts cost, and it answers also where the file is at fault elsewhere; every other call about a GDB trace reads the whole file.
  * `heads` is n + 1. Refusals, in file order: 2, 1, 3 to 5 in the opening; 18, 6 and 7 in a head from 0 to n; 12 where the file's end or the end mark comes
  * first; 8, 24, 10 and 9 in the blocks of frame n. */
 tfk_frame_part tfk_frame_place(tfk_settings settings, const uint8_t *file, size_t file_length, size_t n);

@@ -1,6 +1,6 @@
 /*
- * tfk_frame_place reads the opening, the heads of frames 0 to n and the blocks of frame n. Here all else of a file lies in
- * pages that may not be read, and a call that reads there is at fault. A frame has four pages: its head and a memory block
+ * tfk_frame_place reads the opening, the heads of frames 0 to n and the blocks of frame n. Here every page of a file that holds
+ * none of these may not be read, and a call that reads there is at fault. A frame has four pages: its head and a memory block
  * in the first, a second block in the others. The first frame's pages hold the opening too.
  */
 #define _DEFAULT_SOURCE

@@ -17,9 +17,9 @@ pub struct FoundFrame<'a> {
 /// Frame n of a file, read with these settings; an [`Order`](crate::Order) alone is read with base 16.
 ///
 /// Only these parts of the file are read: the opening, the heads of frames 0 to n, and the blocks of frame n. So it costs what they
-/// cost, and the frame is found also where the file is at fault elsewhere. A fault in these parts is refused as by
-/// [`Trace::open`](crate::Trace::open); where the file ends before frame n, it is [`Refusal::NotFound`]. For many frames open a trace:
-/// each call of this function walks the heads from the first one on.
+/// cost, and the frame is found also where the file is at fault elsewhere. A fault in these parts is refused with its own number, whatever
+/// stands elsewhere; where the file's end or the end mark comes before frame n, it is [`Refusal::NotFound`]. For many frames open a
+/// trace: each call of this function walks the heads from the first one on.
 ///
 /// ```
 /// use tufakpeni::{find_frame, Order, Refusal, Trace};

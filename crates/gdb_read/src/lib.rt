@@ -32,7 +32,7 @@ pub struct FrameHead {
 }
 
 // What stands where a frame may start: the end of the file, a frame with the place after it, or a refusal. The end mark is no frame: 18 here.
-// So a walk is given the file up to where its frames end (`front`), goes by their number, or asks for the mark first (`frames_from`).
+// So a walk is given the file up to where its frames end (`front`), goes by their number, or asks for the mark first (`frames_from`, and `gdb_seek` for one frame).
 pub enum FrameStep {
     End,
     Frame { head: FrameHead, next: usize },

@@ -1,24 +1,25 @@
--- Where the frames before frame n are sound, a refusal other than 12 is the whole reading's own: so a file's first fault is met in the first frame that is refused.
+-- Where the frames before frame n are sound, a refusal other than 12 is the whole reading's own, and a frame that is answered is sound: so a file's first
+-- fault is that of the first frame which is refused.
 -- Assumes nothing.
 use mathlib.Core.Path.{_≡_, refl, sym, ap, _∙_}
 use mathlib.Core.Bool.{Bool, true, false, cond}
 use mathlib.Core.Option.{Option, none, some}
-use Prim.Native.Nat.{ℕ, _+_, _<_}
+use Prim.Native.Nat.{ℕ, _+_, _<_, suc}
 use native.Mathlib.Nat.{add-zero}
 use native.Mathlib.Omega.{arith}
-use mathlib.Core.List.{List, [], _∷_, _++_, append-assoc}
+use mathlib.Core.List.{List, [], _∷_, _++_, append-assoc, append-nil}
 use lib.ListN.{length, drop, length-append}
 use lib.Dec.{leb}
 use lib.Seq.{drop-drop, drop-at}
 use Rattle.refusals.specs.Refusal.{limit, tooLong, notFound}
-use Rattle.fields.specs.Lists.{concatMap, Each, each-map, clash}
-use Rattle.fields.specs.Number.{Bytes}
+use Rattle.fields.specs.Lists.{concatMap, Each, each-map, clash, each-append, concatMap-append}
+use Rattle.fields.specs.Number.{Bytes, bytes-drop}
 use Rattle.fields.specs.Word.{sameBytes}
-use Rattle.fields.specs.Answer.{Answer, accepted, refused, next, never, refused-inv, refused-one}
+use Rattle.fields.specs.Answer.{Answer, accepted, refused, next, never, refused-inv, refused-one, next-inv, cond-inv, accepted-inj}
 use Rattle.fields.specs.Reader.{stepAt, toEndAfter}
 use Rattle.fields.specs.At.{step-refused}
 use Rattle.gdb_format.specs.Settings.{settingsOf}
-use Rattle.gdb_format.specs.Trace.{Frame, Trace, mark, opening, headIn, putFrame}
+use Rattle.gdb_format.specs.Trace.{Frame, Trace, mark, opening, headIn, putFrame, Block}
 use Rattle.gdb_format.specs.Lines.{registerSize}
 use Rattle.gdb_format.specs.Layout.{LinesFit, FrameFits}
 use Rattle.gdb_format.specs.Decode.{blockAfter, seenAfter, blocks, frameHead, frame, ending, frames, openingLines, trace, decode, read}
@@ -31,7 +32,7 @@ use Rattle.gdb_frames.specs.Places.{part}
 use Rattle.gdb_frames.specs.Questions.{dataIn}
 use Rattle.gdb_seek.specs.Walk.{beforeEnd, headOrEnd, Walk, walkTo}
 use Rattle.gdb_seek.specs.Found.{judged, foundBehind, frameFound}
-use Rattle.gdb_seek.specs.Turns.{head-met}
+use Rattle.gdb_seek.specs.Turns.{head-met, reached-here}
 use Rattle.gdb_seek.specs.Openings.{Opens, opened, behind-opening}
 use Rattle.gdb_seek.specs.Heads.{head-here, rest-here, data-here, here-head}
 
@@ -123,15 +124,16 @@ module _ (f : Format) (size : Option ℕ) where
       ∙ frames-more f size (putFrame f r ++ more) r more ((exact-frame f size) .back r more (g .0))
       ∙ rw (frames-refused rs rest k (g .1) i e)
 
-module _ (f : Format) (b : List ℕ) (n k : ℕ) (w : Bytes b) (z : StartsSound f b n) where
-  abbrev start : ℕ
-  start = length (opening (z .lines))
-
+-- behind the sound frames
+module _ {f : Format} {b : List ℕ} {n : ℕ} (z : StartsSound f b n) where
   abbrev size : Option ℕ
   size = registerSize f (z .lines)
 
   starts : Opens f b (z .lines) (concatMap (putFrame f) (z .sound) ++ z .rest)
   starts = record { fits = z .lines-fit; laid-out = z .laid-out }
+
+  abbrev start : ℕ
+  start = length (opening (z .lines))
 
   abbrev end : ℕ
   end = start + length (concatMap (putFrame f) (z .sound))
@@ -141,13 +143,15 @@ module _ (f : Format) (b : List ℕ) (n k : ℕ) (w : Bytes b) (z : StartsSound 
       let hs = concatMap (putFrame f) (z .sound) in
       sym (drop-drop (length hs) start b) ∙ ap (drop (length hs)) (behind-opening starts) ∙ drop-at hs (z .rest) (length hs) refl
 
-  trace-refused : (k ≡ notFound → ⊥) → foundBehind f b n (z .lines) ≡ refused k → trace f b ≡ refused k
-  unfolding trace
-  trace-refused other e =
-      let reach : walkTo f b n start .reached ≡ next (headOrEnd f b end) (foundBy (λ v. v)) =
+  walk-there : walkTo f b n start .reached ≡ next (headOrEnd f b end) (foundBy (λ v. v))
+  walk-there =
       ap (λ m. walkTo f b m start .reached) (sym (z .so-many))
-      ∙ walk-over f b (z .sound) start (z .rest) (each-map (λ r g. (g .0, g .1, g .3)) (z .sound) (z .sound-fit)) (behind-opening starts) in
-      let q = frame-refused f b w size end k other (walkTo f b n start) reach e in
+      ∙ walk-over f b (z .sound) start (z .rest) (each-map (λ r g. (g .0, g .1, g .3)) (z .sound) (z .sound-fit)) (behind-opening starts)
+
+  trace-refused : Bytes b → (k : ℕ) → (k ≡ notFound → ⊥) → foundBehind f b n (z .lines) ≡ refused k → trace f b ≡ refused k
+  unfolding trace
+  trace-refused w k other e =
+      let q = frame-refused f b w size end k other (walkTo f b n start) walk-there e in
       let here : (ending (z .rest) ≡ none) × (frame f size (z .rest) ≡ refused k) = rw rest-there at q in
       rw (opened starts, frames-refused f size (z .sound) (z .rest) k (z .sound-fit) (here .0) (here .1))
 
@@ -159,5 +163,53 @@ first-fault s f b n k w ok z other e = rw ok (by (leb (length b) limit) (rw ok a
   where
     by : (t : Bool) → cond t (next (openingLines f b) (λ o. foundBehind f b n (o .0))) (refused tooLong) ≡ refused k
         → next {B = Format × Trace} (cond t (trace f b) (refused tooLong)) (λ t. accepted (f, t)) ≡ refused k
-    by true e = rw (trace-refused f b n k w z other (rw (opened (starts f b n k w z)) at e))
+    by true e = rw (trace-refused z w k other (rw (opened (starts z)) at e))
     by false e = ap refused (refused-one e)
+
+-- ---- a frame that is answered
+
+module _ (f : Format) (b : List ℕ) (w : Bytes b) (size : Option ℕ) (at : ℕ) where
+  blocks-behind : (d rest : List ℕ) (q : List Block × List ℕ) → blocks f size d [] ≡ accepted q → blocks f size d rest ≡ accepted (q .0, rest)
+  unfolding blocks
+  blocks-behind d rest q e =
+      let p = next-inv (toEndAfter (blockAfter f size) seenAfter false d) _ e in
+      rw (p .1) (ap (λ l. accepted (l, rest)) (accepted-inj (p .2) .0))
+
+  frame-there : (x : (ℕ × ℕ) × ℕ) (v : Walk) → v .reached ≡ next (headOrEnd f b at) (foundBy (λ v. v)) → judged f size b v ≡ accepted x
+      → (r : Frame) × (rest : List ℕ) × (frame f size (drop at b) ≡ accepted (r, rest))
+  unfolding frame
+  frame-there x v i e =
+      let u = next-inv (v .reached) _ e in
+      let p = next-inv (blocks f size (part b (accepted (dataIn (u .0)))) []) _ (u .2) in
+      let m = reached-here f b at (u .0) (sym i ∙ u .1) in
+      let q = here-head f b at w (u .0) (m .0) (sym (m .1)) in
+      let h = q .0 in
+      let rest = drop (m .0) b in
+      let head-read : frameHead f (drop at b) ≡ accepted (h, rest) = ap (frameHead f) (q .2) ∙ (exact-head f) .back h rest (q .1) in
+      let own : part b (accepted (dataIn (u .0))) ≡ h .1 = ap (λ r. part b (accepted (dataIn r))) (sym (q .3)) ∙ data-here f b at h rest (q .2) in
+      (record { tracepoint = h .0; blocks = p .0 .0 }, rest, rw (head-read, blocks-behind (h .1) rest (p .0) (ap (λ d. blocks f size d []) (sym own) ∙ p .1)))
+
+-- behind n sound frames it is sound
+pub sound-more : (s : Settings) (f : Format) (b : List ℕ) (n : ℕ) (x : (ℕ × ℕ) × ℕ) → Bytes b → settingsOf s ≡ accepted f → StartsSound f b n
+    → frameFound s b n ≡ accepted x → StartsSound f b (suc n)
+unfolding frameFound
+sound-more s f b n x w ok z e =
+    let hs = concatMap (putFrame f) (z .sound) in
+    let found = cond-inv (leb (length b) limit) _ tooLong (rw ok at e) .1 in
+    let q = frame-there f b w (size z) (end z) x (walkTo f b n (start z)) (walk-there z) (rw (opened (starts z)) at found) in
+    let r = q .0 in
+    let k = (exact-frame f (size z)) .forth (drop (end z) b) r (q .1) (bytes-drop (end z) b w) (q .2) in
+    let more : z .rest ≡ putFrame f r ++ q .1 = sym (rest-there z) ∙ sym (k .1) in
+    record {
+      lines = z .lines;
+      sound = z .sound ++ r ∷ [];
+      rest = q .1;
+      lines-fit = z .lines-fit;
+      sound-fit = each-append (FrameFits f (registerSize f (z .lines))) (z .sound) (r ∷ []) (z .sound-fit) (k .0, tt);
+      so-many = length-append (z .sound) (r ∷ []) ∙ omega (arith, z .so-many);
+      laid-out =
+          ap (λ d. opening (z .lines) ++ d)
+          (ap (λ d. d ++ q .1) (concatMap-append (putFrame f) (z .sound) (r ∷ []) ∙ ap (λ d. hs ++ d) (append-nil (putFrame f r)))
+          ∙ append-assoc hs (putFrame f r) (q .1) ∙ ap (λ d. hs ++ d) (sym more))
+          ∙ z .laid-out;
+    }

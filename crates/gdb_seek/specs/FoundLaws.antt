@@ -1,26 +1,22 @@
 -- The answer from the answers of its parts, as the code goes; that the part which it names lies in the file.
 -- Assumes nothing.
-use mathlib.Core.Path.{_≡_, refl, sym, ap, _∙_}
-use mathlib.Core.Bool.{false}
+use mathlib.Core.Path.{_≡_, sym, ap, _∙_}
 use mathlib.Core.Option.{Option}
-use Prim.Native.Nat.{ℕ, _+_, _<_, _≤_}
+use Prim.Native.Nat.{ℕ, _<_, _≤_}
 use mathlib.Core.List.{List, []}
-use lib.ListN.{length, take, drop}
+use lib.ListN.{length}
 use lib.Dec.{leb}
 use borrow.Author.Tests.{le-leb, lt-leb}
 use Rattle.refusals.specs.Refusal.{limit, tooLong}
-use Rattle.fields.specs.Lists.{part-front}
 use Rattle.fields.specs.Number.{Bytes}
-use Rattle.fields.specs.Answer.{Answer, accepted, refused, next, next-inv, refused-inv, cond-inv, accepted-one, accepted-inj}
-use Rattle.fields.specs.Reader.{toEndAfter}
+use Rattle.fields.specs.Answer.{Answer, accepted, refused, next-inv, refused-inv, cond-inv, accepted-one, accepted-inj}
 use Rattle.gdb_format.specs.Settings.{settingsOf}
-use Rattle.gdb_format.specs.Trace.{Block, opening}
+use Rattle.gdb_format.specs.Trace.{opening}
 use Rattle.gdb_format.specs.Lines.{registerSize}
 use Rattle.gdb_format.specs.Opening.{openingSeen}
-use Rattle.gdb_format.specs.Decode.{blockAfter, seenAfter, blocks, openingLines}
+use Rattle.gdb_format.specs.Decode.{blocks, openingLines}
 use Rattle.gdb_format.specs.declared.Settings.{Settings}
 use Rattle.gdb_format.specs.declared.Format.{Format}
-use Rattle.gdb_data.specs.Blocks.{blocksFill}
 use Rattle.gdb_read.specs.Steps.{Row}
 use Rattle.gdb_frames.specs.Places.{part}
 use Rattle.gdb_frames.specs.Questions.{dataIn}

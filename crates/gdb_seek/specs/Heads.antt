@@ -26,7 +26,7 @@ use Rattle.gdb_read.specs.Steps.{Row, headSeen}
 use Rattle.gdb_frames.specs.Nth.{foundBy}
 use Rattle.gdb_frames.specs.Places.{placed, part}
 use Rattle.gdb_frames.specs.Questions.{dataIn}
-use Rattle.gdb_seek.specs.Walk.{beforeEnd, headOrEnd, past, walkTo}
+use Rattle.gdb_seek.specs.Walk.{beforeEnd, headOrEnd, Walk, endsAt, goesOn, past, walkTo}
 use Rattle.gdb_seek.specs.Turns.{no-mark, head-turn, reached-here}
 use Rattle.gdb_seek.specs.Numbers.{place-numbers}
 
@@ -117,6 +117,52 @@ module _ (f : Format) (b : List ℕ) {A : Type 0} (to : A → ℕ × List ℕ) w
       let i : drop at b ≡ put x ++ (concatMap put xs ++ rest) = e ∙ append-assoc (put x) (concatMap put xs) rest in
       rw (head-here f b at (to x) (concatMap put xs ++ rest) i (g .0))
       (walk-laid n xs (at + length (put x)) rest (λ k. z (omega (arith, k))) (g .1) (rest-here f b at (to x) (concatMap put xs ++ rest) i))
+
+-- a walk over these heads, the first of which stands at `at`; and what it does where they end
+abbrev pub over : Format → ℕ → List (ℕ × List ℕ) → (ℕ → Walk) → Walk
+over f at [] last = last at
+over f at (h ∷ hs) last = goesOn at (over f (at + length (putData f h)) hs last)
+
+pub over-reached : (f : Format) (at : ℕ) (hs : List (ℕ × List ℕ)) (last : ℕ → Walk)
+    → over f at hs last .reached ≡ last (at + length (concatMap (putData f) hs)) .reached
+over-reached f at [] last = ap (λ m. last m .reached) (sym (add-zero at))
+over-reached f at (h ∷ hs) last =
+    let i : at + length (putData f h) + length (concatMap (putData f) hs) ≡ at + length (concatMap (putData f) (h ∷ hs)) =
+    omega (arith, length-append (putData f h) (concatMap (putData f) hs)) in
+    over-reached f (at + length (putData f h)) hs last ∙ ap (λ m. last m .reached) i
+
+module _ (f : Format) (b : List ℕ) where
+  -- no head stands at a place: the walk ends there
+  stops : (n at k : ℕ) → next (headOrEnd f b at) (foundBy (λ v. v)) ≡ refused k → walkTo f b n at ≡ endsAt at (refused k)
+  stops zero at k e = ap (endsAt at) e
+  stops (suc n) at k e = by (headOrEnd f b at) e
+    where
+      by : (x : Answer (Option (Row × ℕ))) → next x (foundBy (λ v. v)) ≡ refused k → past at (walkTo f b n) x ≡ endsAt at (refused k)
+      by (refused j) e = ap (λ j. endsAt at (refused j)) (refused-one e)
+      by (accepted none) e = ap (λ j. endsAt at (refused j)) (refused-one e)
+      by (accepted (some v)) e = never (sym e)
+
+  -- at most n heads, and then none
+  pub walk-stops : (n k : ℕ) (hs : List (ℕ × List ℕ)) (at : ℕ) (rest : List ℕ) → length hs ≤ n → Each HeadFits hs → drop at b ≡ concatMap (putData f) hs ++ rest
+      → ((m : ℕ) → drop m b ≡ rest → next (headOrEnd f b m) (foundBy (λ v. v)) ≡ refused k)
+      → walkTo f b n at ≡ over f at hs (λ m. endsAt m (refused k))
+  walk-stops n k [] at rest l g e s = stops n at k (s at e)
+  walk-stops zero k (h ∷ hs) at rest l g e s = absurd (omega (arith, l))
+  walk-stops (suc n) k (h ∷ hs) at rest l g e s =
+      let more = concatMap (putData f) hs ++ rest in
+      let there : drop at b ≡ putData f h ++ more = e ∙ append-assoc (putData f h) (concatMap (putData f) hs) rest in
+      rw (head-here f b at h more there (g .0))
+      (ap (goesOn at) (walk-stops n k hs (at + length (putData f h)) rest (omega (arith, l)) (g .1) (rest-here f b at h more there) s))
+
+  -- n heads, and then one more
+  pub walk-meets : (hs : List (ℕ × List ℕ)) (h : ℕ × List ℕ) (at : ℕ) (rest : List ℕ) → Each HeadFits hs → HeadFits h
+      → drop at b ≡ concatMap (putData f) hs ++ (putData f h ++ rest)
+      → walkTo f b (length hs) at ≡ over f at hs (λ m. endsAt m (accepted (headSeen m h)))
+  walk-meets [] h at rest g fit e = rw (head-here f b at h rest e fit)
+  walk-meets (x ∷ hs) h at rest g fit e =
+      let more = concatMap (putData f) hs ++ (putData f h ++ rest) in
+      let there : drop at b ≡ putData f x ++ more = e ∙ append-assoc (putData f x) (concatMap (putData f) hs) (putData f h ++ rest) in
+      rw (head-here f b at x more there (g .0)) (ap (goesOn at) (walk-meets hs h (at + length (putData f x)) rest (g .1) fit (rest-here f b at x more there)))
 
 -- ---- walked, and so laid out
 

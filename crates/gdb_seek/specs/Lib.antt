@@ -10,4 +10,5 @@ pub mod Unread
 pub mod Stands
 pub mod Full
 pub mod FirstFault
-pub mod PartsFound
+pub mod Refused
+pub mod PartsRead

@@ -1,4 +1,5 @@
--- Two files of one length that agree on the parts read get the same answer and the same number of heads, refusals too: what stands elsewhere is not seen.
+-- Two files of one length that agree on the parts read get the same answer and the same number of heads, refusals too, and the same bytes are handed
+-- back: what stands elsewhere is not seen.
 -- Assumes nothing.
 use mathlib.Core.Path.{_≡_, refl, sym, ap, _∙_}
 use mathlib.Core.Bool.{Bool, true, false, cond}
@@ -20,7 +21,7 @@ use Rattle.fields.specs.Answer.{Answer, accepted, refused, next, never, accepte
 use Rattle.fields.specs.Reader.{refuse, bytes, stepAt}
 use Rattle.fields.specs.At.{step-none, step-of}
 use Rattle.gdb_format.specs.Settings.{settingsOf}
-use Rattle.gdb_format.specs.Trace.{head, mark, opening}
+use Rattle.gdb_format.specs.Trace.{Block, head, mark, opening}
 use Rattle.gdb_format.specs.Lines.{mayFollow, registerSize}
 use Rattle.gdb_format.specs.Decode.{blocks, numbered, frameHead, ending, description, openingLines}
 use Rattle.gdb_format.specs.declared.Settings.{Settings}
@@ -29,7 +30,7 @@ use Rattle.gdb_read.specs.Steps.{Row, headSeen}
 use Rattle.gdb_frames.specs.Places.{part}
 use Rattle.gdb_frames.specs.Questions.{dataIn}
 use Rattle.gdb_seek.specs.Walk.{headOrEnd, Walk, goesOn, past, walkTo}
-use Rattle.gdb_seek.specs.Found.{judged, foundBehind, foundIn, frameFound, described, openingRead, headPart, dataPart, walkParts, partsOn, partsIn, partsRead, AgreeOn}
+use Rattle.gdb_seek.specs.Found.{judged, foundBehind, foundIn, frameFound, dataFound, described, openingRead, headPart, dataPart, walkParts, partsOn, partsIn, partsRead, AgreeOn}
 
 -- ---- lists of one length that agree on a front
 
@@ -146,6 +147,23 @@ module _ (f : Format) (b c : List ℕ) (l : length b ≡ length c) where
       by (accepted r) h = ap (λ d. next (blocks f size d []) (λ q. accepted (dataIn r, length (w .visited)))) (h .0)
       by (refused k) h = refl
 
+  -- the bytes of the data that are answered
+  bytes-alike : (size : Option ℕ) (w : Walk) → AgreeOn (dataPart (w .reached)) b c
+      → part b (next (judged f size b w) (λ r. accepted (r .0))) ≡ part c (next (judged f size b w) (λ r. accepted (r .0)))
+  bytes-alike size w h = by (w .reached) h
+    where
+      by-blocks : (r : Row) (y : Answer (List Block × List ℕ)) → part b (accepted (dataIn r)) ≡ part c (accepted (dataIn r))
+          → let x = next {B = (ℕ × ℕ) × ℕ} y (λ q. accepted (dataIn r, length (w .visited))) in
+          part b (next x (λ r. accepted (r .0))) ≡ part c (next x (λ r. accepted (r .0)))
+      by-blocks r (accepted q) e = e
+      by-blocks r (refused k) e = refl
+
+      by : (x : Answer Row) → AgreeOn (dataPart x) b c
+          → let y = next {B = (ℕ × ℕ) × ℕ} x (λ r. next {B = (ℕ × ℕ) × ℕ} (blocks f size (part b (accepted (dataIn r))) []) (λ q. accepted (dataIn r, length (w .visited)))) in
+          part b (next y (λ r. accepted (r .0))) ≡ part c (next y (λ r. accepted (r .0)))
+      by (accepted r) h = by-blocks r (blocks f size (part b (accepted (dataIn r))) []) (h .0)
+      by (refused k) h = refl
+
   behind-alike : (n : ℕ) (ls : List (List ℕ)) → AgreeOn (walkParts (walkTo f b n (length (opening ls)))) b c → foundBehind f b n ls ≡ foundBehind f c n ls
   behind-alike n ls h =
       let w = walkTo f b n (length (opening ls)) in
@@ -227,4 +245,28 @@ unread-unseen s b c n l h = by (settingsOf s) h
     by : (x : Answer Format) → AgreeOn (partsOn x (λ f. cond (leb (length b) limit) (partsIn f b n) [])) b c
         → next x (λ f. foundIn f b n) ≡ next x (λ f. foundIn f c n)
     by (accepted f) h = rw (← l) (short f (leb (length b) limit) h)
+    by (refused k) h = refl
+
+-- and the same bytes of the file, or none
+pub unread-data : (s : Settings) (b c : List ℕ) (n : ℕ) → length b ≡ length c → AgreeOn (partsRead s b n) b c
+    → part b (dataFound s b n) ≡ part c (dataFound s c n)
+unfolding frameFound partsRead
+unread-data s b c n l h = by (settingsOf s) h ∙ ap (λ x. part c (next x (λ r. accepted (r .0)))) (unread-unseen s b c n l h)
+  where
+    behind : (f : Format) (x : Answer (List (List ℕ) × List ℕ)) → AgreeOn (partsOn x (λ o. walkParts (walkTo f b n (length (opening (o .0)))))) b c
+        → let y = next x (λ o. foundBehind f b n (o .0)) in part b (next y (λ r. accepted (r .0))) ≡ part c (next y (λ r. accepted (r .0)))
+    behind f (accepted o) h =
+        let w = walkTo f b n (length (opening (o .0))) in
+        bytes-alike f b c l (registerSize f (o .0)) w (both f b c l (map headPart (w .visited)) (dataPart (w .reached)) h .1)
+    behind f (refused k) h = refl
+
+    short : (f : Format) (t : Bool) → AgreeOn (cond t (partsIn f b n) []) b c
+        → let y = cond t (next (openingLines f b) (λ o. foundBehind f b n (o .0))) (refused tooLong) in
+        part b (next y (λ r. accepted (r .0))) ≡ part c (next y (λ r. accepted (r .0)))
+    short f true h = behind f (openingLines f b) (h .1)
+    short f false h = refl
+
+    by : (x : Answer Format) → AgreeOn (partsOn x (λ f. cond (leb (length b) limit) (partsIn f b n) [])) b c
+        → let y = next x (λ f. foundIn f b n) in part b (next y (λ r. accepted (r .0))) ≡ part c (next y (λ r. accepted (r .0)))
+    by (accepted f) h = short f (leb (length b) limit) h
     by (refused k) h = refl

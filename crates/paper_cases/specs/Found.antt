@@ -10,7 +10,7 @@ use Rattle.gdb_format.specs.Trace.{opening}
 use Rattle.gdb_format.specs.Settings.{defaultSettings}
 use Rattle.gdb_format.specs.Decode.{frameHead, blocks, openingLines}
 use Rattle.gdb_format.specs.declared.Settings.{Settings}
-use Rattle.gdb_seek.specs.Found.{frameFound, partsRead}
+use Rattle.gdb_seek.specs.Found.{frameFound, partsRead, AgreeOn}
 use Rattle.paper_cases.specs.Cases.{h, bare, two}
 use Rattle.paper_cases.specs.Edges.{framed, registerLine}
 use Rattle.paper_cases.specs.Variables.{valued, registered}
@@ -94,6 +94,21 @@ module _ (o : ℕ) where
       ∷ no (registerLine (0x78 ∷ [])) 0 5
       ∷ []
 
+  -- a fault in a head refuses every frame from there on, whatever the blocks of earlier frames are; an opening refuses them all
+  abbrev onward : List Row
+  onward =
+      no (three (1 ∷ [])) 4 6
+      ∷ no (three (0 ∷ 0 ∷ [])) 4 18
+      ∷ no (bare (framed o 1 bad ++ 1 ∷ [])) 1 6
+      ∷ no (bare (framed o 1 bad ++ 1 ∷ [])) 2 6
+      ∷ no (bare (framed o 1 bad ++ 0 ∷ 0 ∷ [])) 1 18
+      ∷ no (bare (framed o 1 bad ++ 1 ∷ 1 ∷ 1 ∷ 1 ∷ 1 ∷ 1 ∷ [])) 1 7
+      ∷ no (bare (framed o 1 bad ++ framed o 2 (0x56 ∷ []))) 1 9
+      ∷ no [] 3 3
+      ∷ no h 3 4
+      ∷ no (registerLine (0x78 ∷ [])) 3 5
+      ∷ []
+
 pub sound-found : Each (Finds (defaultSettings 0)) (sound 0) × Each (Finds (defaultSettings 1)) (sound 1)
 unfolding frameFound openingLines frameHead blocks opening
 sound-found = (
@@ -115,6 +130,13 @@ earlier-found = (
   (refl, (refl, (refl, (refl, (refl, (refl, (refl, (refl, (refl, (refl, (refl, (refl, (refl, tt))))))))))))),
 )
 
+pub onward-found : Each (Finds (defaultSettings 0)) (onward 0) × Each (Finds (defaultSettings 1)) (onward 1)
+unfolding frameFound openingLines frameHead blocks opening
+onward-found = (
+  (refl, (refl, (refl, (refl, (refl, (refl, (refl, (refl, (refl, (refl, tt)))))))))),
+  (refl, (refl, (refl, (refl, (refl, (refl, (refl, (refl, (refl, (refl, tt)))))))))),
+)
+
 -- 2, whatever the file is
 pub settings-found : (frameFound (defaultSettings 2) [] 0 ≡ refused 2) × (frameFound (record { order = 0; base = 8 }) (three 0 []) 0 ≡ refused 2)
 unfolding frameFound
@@ -131,6 +153,8 @@ module _ (o : ℕ) where
       × (partsRead (defaultSettings o) (three o (framed o 4 bad)) 9 ≡ (0, 9) ∷ (9, 6) ∷ (15, 6) ∷ (34, 6) ∷ (40, 6) ∷ (47, 6) ∷ [])
       × (partsRead (defaultSettings o) (bare (1 ∷ 1 ∷ 1 ∷ 1 ∷ 1 ∷ 1 ∷ framed o 2 [])) 1 ≡ (0, 9) ∷ (9, 6) ∷ [])
       × (partsRead (defaultSettings o) (bare (0 ∷ 0 ∷ 7 ∷ [])) 5 ≡ (0, 9) ∷ (9, 6) ∷ [])
+      × (partsRead (defaultSettings o) (three o (1 ∷ [])) 4 ≡ (0, 9) ∷ (9, 6) ∷ (15, 6) ∷ (34, 6) ∷ (40, 6) ∷ [])
+      × (partsRead (defaultSettings o) (bare (framed o 1 bad ++ 1 ∷ [])) 1 ≡ (0, 9) ∷ (9, 6) ∷ (16, 6) ∷ [])
       × (partsRead (defaultSettings o) (two (framed o 1 registered)) 0 ≡ (0, 13) ∷ (13, 6) ∷ (19, 3) ∷ [])
       × (partsRead (defaultSettings o) (registerLine (0x78 ∷ [])) 0 ≡ (0, 12) ∷ [])
       × (partsRead (defaultSettings o) (0x7F ∷ 0x54 ∷ replicate 20 0x0A) 0 ≡ (0, 8) ∷ [])
@@ -138,4 +162,18 @@ module _ (o : ℕ) where
 
 pub parts-hold : Parts 0 × Parts 1
 unfolding partsRead openingLines frameHead opening
-parts-hold = ((refl, refl, refl, refl, refl, refl, refl, refl, refl), (refl, refl, refl, refl, refl, refl, refl, refl, refl))
+parts-hold = (
+  (refl, refl, refl, refl, refl, refl, refl, refl, refl, refl, refl),
+  (refl, refl, refl, refl, refl, refl, refl, refl, refl, refl, refl),
+)
+
+-- two files that differ in the data of frame 0 and behind frame 1 agree on the parts that are read for frame 1
+abbrev differing : ℕ → List ℕ → List ℕ → List ℕ
+differing o d more = bare (framed o 1 d ++ framed o 2 [] ++ more)
+
+abbrev Agree : ℕ → Type 0
+Agree o = AgreeOn (partsRead (defaultSettings o) (differing o bad (1 ∷ [])) 1) (differing o bad (1 ∷ [])) (differing o (0 ∷ []) (0 ∷ []))
+
+pub agree-holds : Agree 0 × Agree 1
+unfolding partsRead openingLines frameHead opening
+agree-holds = ((refl, (refl, (refl, (refl, tt)))), (refl, (refl, (refl, (refl, tt)))))

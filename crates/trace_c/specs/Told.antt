@@ -67,6 +67,11 @@ module _ (s : Settings) (b : List ℕ) where
   unfolding flatFrame
   frame-place-told n = told flatFrame (λ r. r .refusal) (λ k. refl) questionNumbers _ (frame-place-numbers s b n)
 
+  -- and its refusal carries no place, no length and no count
+  pub frame-place-bare : (k : ℕ) → flatFrame (refused k) ≡ record { refusal = k; place = 0; length = 0; heads = 0 }
+  unfolding flatFrame
+  frame-place-bare k = refl
+
   pub block-record-told : (n k : ℕ) → Told flatBlock (λ r. r .refusal) (asked s b (blockAt n k))
   unfolding flatBlock
   block-record-told n k = told flatBlock (λ r. r .refusal) (λ k. refl) questionNumbers _ (block-record-numbers s b n k)
