@@ -67,41 +67,41 @@ module _ (f : Format) (b : List ℕ) where
   FrameRefused size at k = (ending (drop at b) ≡ none) × (frame f size (drop at b) ≡ refused k)
 
   module _ (size : Option ℕ) (at k : ℕ) where
-    head-refused : headOrEnd f b at ≡ refused k → FrameRefused size at k
+    refused-head : headOrEnd f b at ≡ refused k → FrameRefused size at k
     unfolding frame
-    head-refused e = by (ending (drop at b)) refl e
+    refused-head e = by (ending (drop at b)) refl e
       where
         by : (x : Option Bool) → ending (drop at b) ≡ x → beforeEnd x (stepAt headSeen (frameHead f) b at) ≡ refused k → FrameRefused size at k
         by (some m) i e = never (sym e)
         by none i e = (i, rw (step-refused headSeen (frameHead f) (takes-head f) b at k e .1))
 
-    blocks-refused : (d rest : List ℕ) → blocks f size d [] ≡ refused k → blocks f size d rest ≡ refused k
+    refused-blocks : (d rest : List ℕ) → blocks f size d [] ≡ refused k → blocks f size d rest ≡ refused k
     unfolding blocks
-    blocks-refused d rest e = rw (refused-inv k (toEndAfter (blockAfter f size) seenAfter false d) (λ l. (l, [])) (sym e))
+    refused-blocks d rest e = rw (refused-inv k (toEndAfter (blockAfter f size) seenAfter false d) (λ l. (l, [])) (sym e))
 
     -- a head with data that blocks do not fill
-    data-refused : (w : Bytes b) (v : Row) (m : ℕ) → headOrEnd f b at ≡ accepted (some (v, m)) → blocks f size (part b (accepted (dataIn v))) [] ≡ refused k
+    refused-data : (w : Bytes b) (v : Row) (m : ℕ) → headOrEnd f b at ≡ accepted (some (v, m)) → blocks f size (part b (accepted (dataIn v))) [] ≡ refused k
         → FrameRefused size at k
     unfolding frame
-    data-refused w v m e i =
+    refused-data w v m e i =
         let q = here-head f b at w v m e in
         let h = q .0 in
         let head-read : frameHead f (drop at b) ≡ accepted (h, drop m b) = ap (frameHead f) (q .2) ∙ (exact-head f) .back h (drop m b) (q .1) in
         let own : part b (accepted (dataIn v)) ≡ h .1 = ap (λ r. part b (accepted (dataIn r))) (sym (q .3)) ∙ data-here f b at h (drop m b) (q .2) in
-        (head-met f b at (v, m) (sym e) .0, rw (head-read, blocks-refused (h .1) (drop m b) (rw own at i)))
+        (head-met f b at (v, m) (sym e) .0, rw (head-read, refused-blocks (h .1) (drop m b) (rw own at i)))
 
   -- whichever of both it is
-  frame-refused : (w : Bytes b) (size : Option ℕ) (at k : ℕ) → (k ≡ notFound → ⊥) → (v : Walk) → v .reached ≡ next (headOrEnd f b at) (foundBy (λ v. v))
+  refused-frame : (w : Bytes b) (size : Option ℕ) (at k : ℕ) → (k ≡ notFound → ⊥) → (v : Walk) → v .reached ≡ next (headOrEnd f b at) (foundBy (λ v. v))
       → judged f size b v ≡ refused k → FrameRefused size at k
-  frame-refused w size at k other v i e = by (headOrEnd f b at) refl (rw i at e)
+  refused-frame w size at k other v i e = by (headOrEnd f b at) refl (rw i at e)
     where
       by : (x : Answer (Option (Row × ℕ))) → headOrEnd f b at ≡ x
           → next {B = (ℕ × ℕ) × ℕ} (next x (foundBy (λ v. v))) (λ r.
           next {B = (ℕ × ℕ) × ℕ} (blocks f size (part b (accepted (dataIn r))) []) (λ q. accepted (dataIn r, length (v .visited)))) ≡ refused k
           → FrameRefused size at k
-      by (refused j) i e = head-refused size at k (i ∙ ap refused (refused-one e))
+      by (refused j) i e = refused-head size at k (i ∙ ap refused (refused-one e))
       by (accepted none) i e = absurd (other (sym (refused-one e)))
-      by (accepted (some r)) i e = data-refused size at k w (r .0) (r .1) i (refused-inv k (blocks f size (part b (accepted (dataIn (r .0)))) []) _ (sym e))
+      by (accepted (some r)) i e = refused-data size at k w (r .0) (r .1) i (refused-inv k (blocks f size (part b (accepted (dataIn (r .0)))) []) _ (sym e))
 
 -- ---- the whole reading
 
@@ -115,14 +115,14 @@ module _ (f : Format) (size : Option ℕ) where
       by false e = refl
 
   -- refused behind sound frames is refused
-  frames-refused : (rs : List Frame) (rest : List ℕ) (k : ℕ) → Each (FrameFits f size) rs → ending rest ≡ none → frame f size rest ≡ refused k
+  refused-frames : (rs : List Frame) (rest : List ℕ) (k : ℕ) → Each (FrameFits f size) rs → ending rest ≡ none → frame f size rest ≡ refused k
       → frames f size (concatMap (putFrame f) rs ++ rest) ≡ refused k
-  frames-refused [] rest k g i e = let q = no-end rest i in frames-fault f size rest k (q .0) (q .1) e
-  frames-refused (r ∷ rs) rest k g i e =
+  refused-frames [] rest k g i e = let q = no-end rest i in frames-fault f size rest k (q .0) (q .1) e
+  refused-frames (r ∷ rs) rest k g i e =
       let more = concatMap (putFrame f) rs ++ rest in
       ap (frames f size) (append-assoc (putFrame f r) (concatMap (putFrame f) rs) rest)
       ∙ frames-more f size (putFrame f r ++ more) r more ((exact-frame f size) .back r more (g .0))
-      ∙ rw (frames-refused rs rest k (g .1) i e)
+      ∙ rw (refused-frames rs rest k (g .1) i e)
 
 -- behind the sound frames
 module _ {f : Format} {b : List ℕ} {n : ℕ} (z : StartsSound f b n) where
@@ -148,12 +148,12 @@ module _ {f : Format} {b : List ℕ} {n : ℕ} (z : StartsSound f b n) where
       ap (λ m. walkTo f b m start .reached) (sym (z .so-many))
       ∙ walk-over f b (z .sound) start (z .rest) (each-map (λ r g. (g .0, g .1, g .3)) (z .sound) (z .sound-fit)) (behind-opening starts)
 
-  trace-refused : Bytes b → (k : ℕ) → (k ≡ notFound → ⊥) → foundBehind f b n (z .lines) ≡ refused k → trace f b ≡ refused k
+  refused-trace : Bytes b → (k : ℕ) → (k ≡ notFound → ⊥) → foundBehind f b n (z .lines) ≡ refused k → trace f b ≡ refused k
   unfolding trace
-  trace-refused w k other e =
-      let q = frame-refused f b w size end k other (walkTo f b n start) walk-there e in
+  refused-trace w k other e =
+      let q = refused-frame f b w size end k other (walkTo f b n start) walk-there e in
       let here : (ending (z .rest) ≡ none) × (frame f size (z .rest) ≡ refused k) = rw rest-there at q in
-      rw (opened starts, frames-refused f size (z .sound) (z .rest) k (z .sound-fit) (here .0) (here .1))
+      rw (opened starts, refused-frames f size (z .sound) (z .rest) k (z .sound-fit) (here .0) (here .1))
 
 -- where the file starts with an opening and n sound frames, what is refused but for 12 is refused so by the whole reading
 pub first-fault : (s : Settings) (f : Format) (b : List ℕ) (n k : ℕ) → Bytes b → settingsOf s ≡ accepted f → StartsSound f b n → (k ≡ notFound → ⊥)
@@ -163,7 +163,7 @@ first-fault s f b n k w ok z other e = rw ok (by (leb (length b) limit) (rw ok a
   where
     by : (t : Bool) → cond t (next (openingLines f b) (λ o. foundBehind f b n (o .0))) (refused tooLong) ≡ refused k
         → next {B = Format × Trace} (cond t (trace f b) (refused tooLong)) (λ t. accepted (f, t)) ≡ refused k
-    by true e = rw (trace-refused z w k other (rw (opened (starts z)) at e))
+    by true e = rw (refused-trace z w k other (rw (opened (starts z)) at e))
     by false e = ap refused (refused-one e)
 
 -- ---- a frame that is answered

@@ -86,6 +86,7 @@ abbrev pub partsOn : {A : Type 0} → Answer A → (A → List (ℕ × ℕ)) →
 partsOn (accepted a) g = g a
 partsOn (refused k) g = []
 
+-- the opening as far as it is read, and behind one that is let through what the walk reads
 abbrev pub partsIn : Format → List ℕ → ℕ → List (ℕ × ℕ)
 partsIn f b n = (0, openingRead f b) ∷ partsOn (openingLines f b) (λ o. walkParts (walkTo f b n (length (opening (o .0)))))
 
