@@ -17,8 +17,8 @@ use Rattle.gdb_format.specs.declared.Format.{Format}
 use Rattle.gdb_read.specs.declared.FrameHead.{FrameHead}
 use Rattle.gdb_read.specs.declared.FrameStep.{FrameStep}
 use Rattle.gdb_read.specs.declared.FrameStep.the-variants as framestep
-use Rattle.gdb_read.specs.declared.Count.{Count}
-use Rattle.gdb_read.specs.declared.Count.the-variants as count
+use Rattle.gdb_read.specs.declared.FrameCount.{FrameCount}
+use Rattle.gdb_read.specs.declared.FrameCount.the-variants as count
 use Rattle.gdb_read.specs.declared.Opened.{Opened}
 use Rattle.gdb_read.specs.declared.Reading.{Reading}
 use Rattle.gdb_read.specs.declared.Reading.the-variants as reading
@@ -48,7 +48,7 @@ frameMeaning (framestep.Frame h m) = accepted (some (headMeaning h, m))
 frameMeaning (framestep.Refused n) = refused n
 
 -- the number of frames, and whether the end mark stands behind them
-abbrev pub framesMeaning : Count → Answer (ℕ × Bool)
+abbrev pub framesMeaning : FrameCount → Answer (ℕ × Bool)
 framesMeaning (count.Frames n m) = accepted (n, m)
 framesMeaning (count.Refused n) = refused n
 

@@ -135,17 +135,17 @@ pub fn mark_length(marked: bool) -> usize
 }
 
 // So many frames, and whether the end mark stands behind them; or the refusal of the first that does not fit.
-pub enum Count {
+pub enum FrameCount {
     Frames { count: usize, marked: bool },
     Refused(u8),
 }
 
 // How many frames stand in `s` from `from` on, up to its end or to the end mark. Behind the end stand none: tested once, and no turn tests it.
-pub fn frames_from(format: Format, size: RegisterSize, s: &[u8], from: usize) -> Count
+pub fn frames_from(format: Format, size: RegisterSize, s: &[u8], from: usize) -> FrameCount
     ensures { λ r. ⌜ framesMeaning r ≡ framesCounted format (sizeMeaning size) (drop from (now (s .entry))) ⌝ }
 {
     if s.len() < from {
-        return Count::Frames {
+        return FrameCount::Frames {
             count: 0,
             marked: false,
         };
@@ -154,20 +154,20 @@ pub fn frames_from(format: Format, size: RegisterSize, s: &[u8], from: usize) ->
     let mut n: usize = 0;
     loop {
         if mark_here(s, at) {
-            return Count::Frames {
+            return FrameCount::Frames {
                 count: n,
                 marked: true,
             };
         }
         match frame_at(format, size, s, at) {
             FrameStep::End => {
-                return Count::Frames {
+                return FrameCount::Frames {
                     count: n,
                     marked: false,
                 };
             }
             FrameStep::Refused(k) => {
-                return Count::Refused(k);
+                return FrameCount::Refused(k);
             }
             FrameStep::Frame { head: _, next } => {
                 at = next;
@@ -212,8 +212,8 @@ fn read_as(format: Format, file: &[u8]) -> Reading
     match gdb_format::opening_of(format, file) {
         Opening::Refused(n) => Reading::Refused(n),
         Opening::Found { end, size } => match frames_from(format, size, file, end) {
-            Count::Refused(n) => Reading::Refused(n),
-            Count::Frames { count, marked } => Reading::Accepted(Opened {
+            FrameCount::Refused(n) => Reading::Refused(n),
+            FrameCount::Frames { count, marked } => Reading::Accepted(Opened {
                 format,
                 size,
                 start: end,

@@ -13,7 +13,7 @@ use gdb_format::Opening;
 use gdb_format::RegisterSize;
 use gdb_format::Settings;
 use gdb_frames::PlaceAnswer;
-use gdb_read::Count;
+use gdb_read::FrameCount;
 use gdb_read::FrameHead;
 use gdb_read::FrameStep;
 use refusals::LIMIT;
@@ -93,8 +93,8 @@ fn frame_behind(
             } = head;
             let end = place + length;
             match gdb_read::frames_from(format, size, &file[..end], place - 6) {
-                Count::Refused(k) => FrameAnswer::Refused(k),
-                Count::Frames {
+                FrameCount::Refused(k) => FrameAnswer::Refused(k),
+                FrameCount::Frames {
                     count: _,
                     marked: _,
                 } => FrameAnswer::At {
