@@ -57,6 +57,7 @@ class Accepted(Case):
                     found = find_frame(file, frame.number, made.order, base)
                     self.assertEqual(told(found), told(frame))
                     self.assertEqual(found.heads, frame.number + 1)
+                    self.assertEqual(found.description.record.registers_place, frame.registers_place or 0)
                 self.described(find_frame(file, 0, made.order, base).description, trace)
                 for n in (len(trace), len(trace) + 1, *ABSENT):
                     self.refused(12, find_frame, file, n, made.order, base)

@@ -27,7 +27,8 @@ class Sought(Description):
         alone, moved = self.alone(part.place, part.length)
         record, = frame_table(self._settings, alone, 1)
         record.place += moved
-        record.registers_place += moved
+        if record.has_registers:
+            record.registers_place += moved
         return record
 
 
