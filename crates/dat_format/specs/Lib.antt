@@ -3,6 +3,7 @@ pub mod Header
 pub mod Layout
 pub mod Tests
 pub mod Pages
+pub mod Alignment
 pub mod RangeLaws
 pub mod Decode
 pub mod ExactPieces

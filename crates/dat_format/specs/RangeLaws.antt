@@ -1,10 +1,10 @@
 -- The reader's tests of the CPU ranges against the layout's words: each lets through just the ranges that fit.
 -- Assumes nothing.
-use mathlib.Core.Path.{_≡_, refl, sym, ap, _∙_}
+use mathlib.Core.Path.{_≡_, refl}
 use mathlib.Core.Bool.{Bool, true, _&&_, or-true}
 use mathlib.Core.Logic.{_↔_, by-cases}
-use Prim.Native.Nat.{ℕ, _+_, _*_, _/_, _%_}
-use native.Mathlib.Nat.{lt-of-not-le, div-add-mod', mul-mod-left, add-zero}
+use Prim.Native.Nat.{ℕ, _+_}
+use native.Mathlib.Nat.{lt-of-not-le}
 use native.Mathlib.Decide.{decLe}
 use native.Mathlib.Omega.{arith}
 use mathlib.Core.List.{List, [], _∷_}
@@ -13,17 +13,12 @@ use borrow.Author.Tests.{eqb-true, eq-eqb, leb-true, le-leb}
 use Rattle.fields.specs.Lists.{Each}
 use Rattle.fields.specs.Word.{and-inv}
 use Rattle.dat_format.specs.Header.{Range}
-use Rattle.dat_format.specs.Layout.{Multiple, LiesInFile, NoneInBoth, EachTwo}
+use Rattle.dat_format.specs.Layout.{LiesInFile, NoneInBoth, EachTwo}
 use Rattle.dat_format.specs.Tests.{aligned, inFile, apart, all, allApart}
 use Rattle.dat_format.specs.Pages.{or-elim}
+use Rattle.dat_format.specs.Alignment.{aligned-is}
 
 -- ---- one range
-
-aligned-is : (page n : ℕ) → (aligned page n ≡ true) ↔ Multiple page n
-aligned-is page n = (
-  (λ e. let z : n % page ≡ 0 = eqb-true (n % page) 0 e in (n / page, sym (div-add-mod' n page) ∙ rw z (add-zero (n / page * page)))),
-  (λ m. let z : n % page ≡ 0 = ap (λ n. n % page) (m .1) ∙ mul-mod-left (m .0) page in rw z),
-)
 
 in-file-is : (page end total : ℕ) (r : Range) → (inFile page end total r ≡ true) ↔ LiesInFile page end total r
 in-file-is page end total r = (forth, back)

@@ -9,7 +9,7 @@ use lib.Dec.{leb, eqb}
 use borrow.Author.Tests.{le-leb}
 use Rattle.fields.specs.declared.Order.{Order}
 use Rattle.dat_format.specs.Header.{Range}
-use Rattle.dat_format.specs.Tests.{inFile, apart, all, allApart}
+use Rattle.dat_format.specs.Tests.{isPage, inFile, apart, all, allApart}
 use Rattle.dat_format.specs.Entries.{entries}
 use Rattle.dat_ranges.specs.declared.Later.{Later}
 use Rattle.dat_ranges.specs.declared.Later.the-variants.{At, Not}
@@ -25,9 +25,9 @@ abbrev pub testMeaning : Test → Range → Bool
 testMeaning (InFile page end total) = inFile page end total
 testMeaning (Apart a n) = apart (rangeOf a n)
 
--- a page size is not 0
+-- alignment is told for page sizes only
 abbrev pub possible : Test → Bool
-possible (InFile page end total) = leb 1 page
+possible (InFile page end total) = isPage page
 possible (Apart a n) = true
 
 -- ranges of which one does not pass are misplaced, whether two overlap or not

@@ -1,20 +1,22 @@
 // What a trace.dat file asks of its CPU ranges.
 ghost use mathlib.Core.Path.{_≡_};
 ghost use mathlib.Core.Bool.{true};
-ghost use Prim.Native.Nat.{_+_, _*_, _<_, _≤_};
+ghost use mathlib.Core.Logic.{_↔_};
+ghost use Prim.Native.Nat.{_+_, _*_, _≤_};
 ghost use lib.Dec.{leb};
 ghost use lib.ListN.{length};
-ghost use Rattle.dat_format.specs.Tests.{aligned, inFile, apart, all, allApart};
+ghost use Rattle.dat_format.specs.Layout.{PageFits, Multiple};
+ghost use Rattle.dat_format.specs.Tests.{inFile, apart, all, allApart};
 ghost use Rattle.dat_format.specs.Entries.{entries};
 ghost use Rattle.dat_ranges.specs.Ranges.{rangeOf, testMeaning, possible, Leads, judgement, judged};
 use fields::Order;
 
-// Whether an offset is a multiple of the page size.
-fn is_aligned(page: u64, offset: u64) -> bool
-    requires { ⌜ 0 < page ⌝ }
-    ensures { λ r. ⌜ r ≡ aligned page offset ⌝ }
+// Whether an offset is a multiple of the page size. That is a power of two, so the bits below it tell, and nothing is divided.
+fn is_aligned(page: u32, offset: u64) -> bool
+    requires { ⌜ PageFits page ⌝ }
+    ensures { λ r. ⌜ (r ≡ true) ↔ Multiple page offset ⌝ }
 {
-    offset % page == 0
+    offset & (page as u64 - 1) == 0
 }
 
 // Whether a range ends within a file of length `total`, offset and size added as whole numbers: a sum that wraps is past every file.
@@ -29,8 +31,8 @@ fn ends_within(total: u64, offset: u64, size: u64) -> bool
 }
 
 // Whether a CPU's range lies in a file of length `total` whose header ends at `end`.
-fn in_file(page: u64, end: u64, total: u64, offset: u64, size: u64) -> bool
-    requires { ⌜ 0 < page ⌝ }
+fn in_file(page: u32, end: u64, total: u64, offset: u64, size: u64) -> bool
+    requires { ⌜ PageFits page ⌝ }
     ensures { λ r. ⌜ r ≡ inFile page end total (rangeOf offset size) ⌝ }
 {
     if size == 0 {
@@ -63,7 +65,7 @@ fn are_apart(first: u64, first_size: u64, second: u64, second_size: u64) -> bool
 
 // A test that each of several ranges may pass.
 pub enum Test {
-    InFile { page: u64, end: u64, total: u64 },
+    InFile { page: u32, end: u64, total: u64 },
     Apart { offset: u64, size: u64 },
 }
 
@@ -190,12 +192,12 @@ fn judge_in(s: &[u8], order: Order, test: Test, n: u32, from: usize) -> Judgemen
     Judgement::Misplaced
 }
 
-// Whether a test can be made: no offset is a multiple of a page size of 0.
+// Whether a test can be made: alignment is told for page sizes only.
 fn is_possible(test: Test) -> bool
     ensures { λ r. ⌜ r ≡ possible test ⌝ }
 {
     match test {
-        Test::InFile { page, .. } => 1 <= page,
+        Test::InFile { page, .. } => dat_format::is_page(page),
         Test::Apart { .. } => true,
     }
 }

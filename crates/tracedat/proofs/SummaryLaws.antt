@@ -17,8 +17,9 @@ use Rattle.fields.specs.Got.{Got, not-read, got}
 use Rattle.fields.specs.Element.{nth}
 use Rattle.fields.specs.declared.Order.{Order}
 use Rattle.dat_format.specs.Header.{Range, Ending, latency, flyrecord, Header, encode}
-use Rattle.dat_format.specs.Layout.{HeaderFits, ranges}
-use Rattle.dat_format.specs.Tests.{inFile, all, allApart}
+use Rattle.dat_format.specs.Layout.{PageFits, HeaderFits, ranges}
+use Rattle.dat_format.specs.Tests.{isPage, inFile, all, allApart}
+use Rattle.dat_format.specs.Pages.{page-fits}
 use Rattle.dat_format.specs.Decode.{header, checked, decode}
 use Rattle.dat_format.specs.Entries.{entryAt, entries, nth-entry, no-entry}
 use Rattle.dat_format.specs.Exactness.{exact-header, exactness}
@@ -69,8 +70,8 @@ module _ {s : List ℕ} {sm : Summary} (r : Summarised s sm) where
   unfolding summary
   page-same = ap (λ t. t .flags .page) (r .sums)
 
-  page-some : 1 ≤ sm .flags .page
-  page-some = omega (arith, page-same, r .fits .0 .1 .0)
+  is-page : isPage (sm .flags .page) ≡ true
+  is-page = (page-fits _) .1 (subst PageFits page-same (r .fits .0 .1))
 
   -- the entries, where the summary says
   abbrev Stored : Summary → Type 0
@@ -170,8 +171,7 @@ module _ {s : List ℕ} {sm : Summary} {end : ℕ} (w : HeaderFound s sm end) wh
     checks-is : {v : Judgement} → Judged v → v ≡ checks
     checks-is e =
         let test = InFile (sm .flags .page) end (length s) in
-        let possible = le-leb 1 (sm .flags .page) (page-some summarised) in
-        e ∙ judged-there test (sm .flags .order) s (sm .texts .cpus) (sm .body .place) possible (room summarised k)
+        e ∙ judged-there test (sm .flags .order) s (sm .texts .cpus) (sm .body .place) (is-page summarised) (room summarised k)
         ∙ ap (judgement (inFile (sm .flags .page) end (length s))) (stored-are summarised k .1)
         ∙ ap₂ (λ p n. judgement (inFile p n (length s)) (ranges (h .tail .ending))) (sym (page-same summarised)) (sym end-is)
 

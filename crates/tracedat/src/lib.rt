@@ -36,7 +36,7 @@ pub fn summary(file: &[u8]) -> SummaryAnswer
                     let n = summary.texts.cpus;
                     let place = summary.body.place;
                     let test = Test::InFile {
-                        page: flags.page as u64,
+                        page: flags.page,
                         end: end as u64,
                         total: file.len() as u64,
                     };

@@ -3,6 +3,7 @@ use mathlib.Core.Path.{_≡_}
 use mathlib.Core.Bool.{true}
 use borrow.Author.Tests.{not-true, not-false}
 use Rattle.dat_format.specs.Tests.{aligned, tested}
+use Rattle.dat_format.specs.Alignment.{aligned-told}
 use Rattle.dat_ranges.proofs.RangeLaws.{empty-in, misaligned, too-early, up-to-end}
 use borrow.Author.Needs.{needs}
 use native.Mathlib.Omega.{arith}
@@ -13,7 +14,7 @@ abbrev start : tie.Else2 → tie.Start
 start k = k .before .before .before
 
 is-aligned : (k : tie.Else2) → aligned (start k .args .page) (start k .args .offset) ≡ true
-is-aligned k = tested (k .before .is-aligned .ensures) (not-false _ (k .if2 .left))
+is-aligned k = tested (aligned-told _ _ (k .before .is-aligned .ensures)) (not-false _ (k .if2 .left))
 
 returns : tie.Need-returns
 returns c = let a = c .before .args in empty-in (a .page) (a .end) (a .total) (a .offset) (a .size) (c .if1 .taken)
@@ -22,7 +23,7 @@ returns-2 : tie.Need-returns-2
 returns-2 c =
     let q : tie.Start = search in
     let a = q .args in
-    misaligned (a .page) (a .end) (a .total) (a .offset) (a .size) (search) (tested (c .before .is-aligned .ensures) (not-true _ (c .if2 .taken)))
+    misaligned (a .page) (a .end) (a .total) (a .offset) (a .size) (search) (tested (aligned-told _ _ (c .before .is-aligned .ensures)) (not-true _ (c .if2 .taken)))
 
 returns-3 : tie.Need-returns-3
 returns-3 c =

@@ -1,14 +1,14 @@
 -- `dat_ranges::passes` meets its contract. Assumes nothing.
 use mathlib.Core.Path.{sym, ap, _∙_}
-use borrow.Author.Tests.{leb-true}
 use Rattle.fields.specs.Given.{at-case}
+use Rattle.dat_format.specs.Pages.{page-fits}
 use Rattle.dat_ranges.specs.Ranges.{rangeOf, testMeaning, possible}
 use borrow.Author.Needs.{needs}
 use Rattle.dat_ranges.proofs.passes.Statement.{statement}
 use Rattle.dat_ranges.proofs.passes.Tie as tie
 
 in-file-requires : tie.Need-in-file-requires
-in-file-requires c κs = let q : tie.Start = search in leb-true _ _ (at-case possible (c .before .test .given .1) (q .pre))
+in-file-requires c κs = let q : tie.Start = search in (page-fits _) .0 (at-case possible (c .before .test .given .1) (q .pre))
 
 returns : tie.Need-returns
 returns c =
