@@ -161,6 +161,47 @@ static void every_range(void)
     }
 }
 
+/* One CPU whose range of one byte starts at this offset, in a file of two pages of which only the header is written: no answer goes by
+ * the pages. */
+static void one_range(uint8_t order, uint32_t page, uint64_t offset, uint8_t refusal)
+{
+    made header = start(order, (fault){.page_size = page, .cpu_count = 1});
+    put(&header, "flyrecord", 10);
+    put_number(&header, offset, 8);
+    put_number(&header, 1, 8);
+    size_t length = 2 * (size_t)page;
+    uint8_t *bytes = memcpy(unwritten(length), header.bytes, header.length);
+    tfk_dat_summary answer = tfk_dat_read(bytes, length);
+    about = offset;
+    CHECK(answer.refusal == refusal && answer.page_size == (refusal ? 0 : page));
+    CHECK(is_range(tfk_dat_cpu_range(bytes, length, 0), refusal, refusal ? 0 : offset, refusal ? 0 : 1));
+    free(bytes);
+}
+
+/* A page's start; off it by each bit below the page size, by all of them, by one before it; the same far past the file. */
+static void alignment(uint8_t order, uint32_t page)
+{
+    begin("a range on a page's start and off it");
+    one_range(order, page, page, 0);
+    for (uint32_t bit = 1; bit < page; bit *= 2) {
+        one_range(order, page, page + bit, TFK_BAD_RANGE);
+    }
+    one_range(order, page, 2 * page - 1, TFK_BAD_RANGE);
+    one_range(order, page, page - 1, TFK_BAD_RANGE);
+    for (unsigned high = 32; high < 64; high++) {
+        one_range(order, page, (UINT64_C(1) << high) + page, TFK_BAD_RANGE);
+        one_range(order, page, (UINT64_C(1) << high) + page / 2, TFK_BAD_RANGE);
+    }
+    end();
+}
+
+static void every_page_size(uint8_t order)
+{
+    for (uint32_t page = 1024; page <= 65536; page *= 2) {
+        alignment(order, page);
+    }
+}
+
 /* One byte of the smallest file changed: refused from where its string or field is whole. */
 static void wrong_byte(const char *name, size_t place, uint8_t value, size_t from)
 {
@@ -206,6 +247,7 @@ void dats(void)
         smallest(order);
         latency(order);
         every_section(order);
+        every_page_size(order);
     }
     every_range();
     every_fault();

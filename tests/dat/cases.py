@@ -3,6 +3,7 @@ from build import WORDS, Header, flyrecord, latency
 
 PAST, CONSTANT, RANGE, OVERLAP = 14, 15, 16, 17
 SHAPES = [(order, long) for order in ('little', 'big') for long in (4, 8)]
+PAGES = [2 ** k for k in range(10, 17)]
 SMALLEST = flyrecord()
 
 
@@ -46,7 +47,7 @@ def flags():
         yield f'long size {long}', b[:13] + bytes([long]) + b[14:], CONSTANT
         yield f'long size {long} at the end of the file', b[:13] + bytes([long]), CONSTANT
     for order, long in SHAPES:
-        for page in (1024, 2048, 4096, 8192, 16384, 32768, 65536):
+        for page in PAGES:
             yield accepted(f'page size {page}', flyrecord(order=order, long=long, page=page))
         for page in (0, 1, 512, 1023, 1025, 3072, 65535, 65537, 131072, 2 ** 32 - 1):
             yield f'page size {page}', flyrecord(order=order, long=long, page=page).bytes, CONSTANT
@@ -166,4 +167,16 @@ def wrong_ranges():
         yield 'an entry cut short before a misaligned range', h.bytes[:-1], PAST
 
 
-GROUPS = (smallest, strings, flags, sections, cpu_counts, options, endings, sound_ranges, wrong_ranges)
+def alignments():
+    """Of each page size: a page's start, off it by each bit below the size, by all of them and by half a page, and the same past 2^32."""
+    for order in ('little', 'big'):
+        for page in PAGES:
+            yield padded(f'a start of pages of {page}', flyrecord(((page, 1),), order, 8, page), 2 * page)
+            off = [2 ** k for k in range(page.bit_length() - 1)] + [page - 1, -1, -(page // 2)]
+            far = [2 ** k + d for k in (32, 33, 63) for d in (0, page // 2)]
+            for offset in [page + d for d in off + far]:
+                h = flyrecord(((offset, 1),), order, 8, page)
+                yield f'{offset} with pages of {page}', h.bytes + bytes(2 * page - len(h.bytes)), RANGE
+
+
+GROUPS = (smallest, strings, flags, sections, cpu_counts, options, endings, sound_ranges, wrong_ranges, alignments)

@@ -10,7 +10,7 @@ from pathlib import Path
 PAPERS = Path(__file__).resolve().parent.parent.parent / 'docs' / 'papers'
 
 # The requests of document 02 that have landed. With its landing a request is named here, and its sentences are demanded.
-LANDED = ('C-11', 'C-13', 'C-14', 'C-18', 'C-19', 'C-20')
+LANDED = ('C-11', 'C-13', 'C-14', 'C-15', 'C-18', 'C-19', 'C-20')
 
 QUOTE = re.compile(r'^>\s?')
 MARK = re.compile(r'^(?:-|\d+\.)\s+')

@@ -109,6 +109,14 @@ ranged n entries k = empty (0 ∷ 8 ∷ 0 ∷ 4 ∷ 0 ∷ 0 ∷ []) (n ∷ 0 ∷
 abbrev entry : ℕ → ℕ → ℕ → ℕ → List ℕ
 entry a b c d = a ∷ b ∷ 0 ∷ 0 ∷ 0 ∷ 0 ∷ 0 ∷ 0 ∷ c ∷ d ∷ 0 ∷ 0 ∷ 0 ∷ 0 ∷ 0 ∷ 0 ∷ []
 
+-- pages of as many bytes as these two say, times 256; one CPU with one byte at an offset of these bytes, then k zeros
+abbrev paged : ℕ → ℕ → List ℕ → ℕ → List ℕ
+paged low high offset k = empty (0 ∷ 8 ∷ 0 ∷ low ∷ high ∷ 0 ∷ []) (1 ∷ 0 ∷ 0 ∷ 0 ∷ flyrecord ++ offset ++ 1 ∷ replicate 7 0 ++ replicate k 0)
+
+-- the three low bytes of an offset
+abbrev at : ℕ → ℕ → ℕ → List ℕ
+at a b c = a ∷ b ∷ c ∷ replicate 5 0
+
 -- 911 bytes of kallsyms make a header of 1,024 bytes; pages of 1,024
 abbrev toThePage : List ℕ
 toThePage =
@@ -321,6 +329,27 @@ ranges =
     cpu 0 toThePage (accepted (1024, 1)) ∷
     cpu 0 bigRange (accepted (1024, 5)) ∷ []
 
+abbrev alignments : List Case
+alignments =
+    -- of each page size a range at the start of a page, up to the file's end, and one at half a page
+    cpu 0 (paged 4 0 (at 0 4 0) 912) (accepted (1024, 1)) ∷
+    no (paged 4 0 (at 0 2 0) 912) 16 ∷
+    cpu 0 (paged 8 0 (at 0 8 0) 1936) (accepted (2048, 1)) ∷
+    no (paged 8 0 (at 0 4 0) 1936) 16 ∷
+    cpu 0 (paged 0x10 0 (at 0 0x10 0) 3984) (accepted (4096, 1)) ∷
+    no (paged 0x10 0 (at 0 8 0) 3984) 16 ∷
+    cpu 0 (paged 0x20 0 (at 0 0x20 0) 8080) (accepted (8192, 1)) ∷
+    no (paged 0x20 0 (at 0 0x10 0) 8080) 16 ∷
+    cpu 0 (paged 0x40 0 (at 0 0x40 0) 16272) (accepted (16384, 1)) ∷
+    no (paged 0x40 0 (at 0 0x20 0) 16272) 16 ∷
+    cpu 0 (paged 0x80 0 (at 0 0x80 0) 32656) (accepted (32768, 1)) ∷
+    no (paged 0x80 0 (at 0 0x40 0) 32656) 16 ∷
+    cpu 0 (paged 0 1 (at 0 0 1) 65424) (accepted (65536, 1)) ∷
+    no (paged 0 1 (at 0 0x80 0) 65424) 16 ∷
+    -- a byte behind the start; 1,024 with the bit of 2 ^ 32, which is past the file
+    no (paged 0 1 (at 1 0 1) 65425) 16 ∷
+    no (paged 4 0 (0 ∷ 4 ∷ 0 ∷ 0 ∷ 1 ∷ 0 ∷ 0 ∷ 0 ∷ []) 912) 16 ∷ []
+
 abbrev wholes : List Case
 wholes =
     -- data in every section, and every part of the summary; then big, and a text
@@ -335,7 +364,7 @@ wholes =
     cpu 2 full (refused 16) ∷ []
 
 abbrev table : List (List Case)
-table = papers ∷ strings ∷ laterStrings ∷ numbers ∷ tails ∷ ranges ∷ wholes ∷ []
+table = papers ∷ strings ∷ laterStrings ∷ numbers ∷ tails ∷ ranges ∷ alignments ∷ wholes ∷ []
 
 pub cases-hold : Each (Each Holds) table
 unfolding summed cpuRange summary decode header checked opening flags sizes sections system texts tail tailAfter word options ending range
@@ -347,5 +376,7 @@ cases-hold =
     let of-numbers : Each Holds numbers = (refl, (refl, (refl, (refl, (refl, (refl, (refl, (refl, (refl, (refl, (refl, tt))))))))))) in
     let of-tails : Each Holds tails = (refl, (refl, (refl, (refl, (refl, (refl, tt)))))) in
     let of-ranges : Each Holds ranges = (refl, (refl, (refl, (refl, (refl, (refl, (refl, (refl, (refl, (refl, (refl, (refl, (refl, tt))))))))))))) in
+    let of-alignments : Each Holds alignments =
+        (refl, (refl, (refl, (refl, (refl, (refl, (refl, (refl, (refl, (refl, (refl, (refl, (refl, (refl, (refl, (refl, tt)))))))))))))))) in
     let of-wholes : Each Holds wholes = (refl, (refl, (refl, (refl, (refl, (refl, (refl, (refl, tt)))))))) in
-    (of-papers, (of-strings, (of-laterStrings, (of-numbers, (of-tails, (of-ranges, (of-wholes, tt)))))))
+    (of-papers, (of-strings, (of-laterStrings, (of-numbers, (of-tails, (of-ranges, (of-alignments, (of-wholes, tt))))))))

@@ -172,8 +172,11 @@ fn dat_files() {
         dats.compare(&any_dat(&mut Random::of(seed, index)));
     }
     let often = dats.tally.files / 100;
-    let least: Vec<_> = [12, 14, 15, 16, 17].map(|number| (Met::Refusal(number), often)).into();
-    dats.tally.finish(&[&least[..], &[(Met::Refusal(1), 3)]].concat());
+    let refusals = [12, 14, 15, 16, 17].map(|number| (Met::Refusal(number), often));
+    // These are counted apart for each page size and byte order.
+    let alignment = Met::all_alignment().map(|met| (met, often / 20));
+    let least: Vec<_> = refusals.into_iter().chain([(Met::Refusal(1), 3)]).chain(alignment).collect();
+    dats.tally.finish(&least);
 }
 
 fn every_front_and_byte_of_dats(dats: &mut Dats, random: &mut Random) {

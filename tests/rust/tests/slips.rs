@@ -10,6 +10,8 @@ use tufakpeni_tests::run::seed;
 use tufakpeni_tests::second::dat::{self, CpuRange};
 use tufakpeni_tests::second::{Refusal, MAX_LENGTH};
 
+#[path = "slips/alignment.rs"]
+mod alignment;
 #[path = "slips/base.rs"]
 mod base;
 #[path = "slips/partial.rs"]
@@ -187,6 +189,16 @@ fn records_that_are_not_the_registers_are_seen() {
 #[test]
 fn at_most_one_register_block_is_no_slip() {
     assert!(!seen_on_traces(&registers::AT_MOST_ONE));
+}
+
+#[test]
+fn slips_about_alignment_are_seen() {
+    all_seen(&alignment::SLIPS, seen_on_dats);
+}
+
+#[test]
+fn the_bits_below_the_page_size_are_no_slip() {
+    assert!(!seen_on_dats(&alignment::LOW_BITS));
 }
 
 #[test]

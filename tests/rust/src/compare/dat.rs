@@ -1,6 +1,6 @@
 //! The questions about a trace.dat file.
 
-use super::{ask, indices, Comparer, Difference};
+use super::{ask, indices, Alignment, Comparer, Difference, Met};
 use crate::c::DatSummary;
 use crate::make::Made;
 
@@ -15,6 +15,9 @@ impl Comparer<'_> {
         let summary = ask!(self.dat_read([] file []))?;
         for i in indices(summary.cpu_count as usize, self.most) {
             ask!(self.dat_cpu_range([] file [i]))?;
+        }
+        if let Some(shown) = Alignment::of_file(file) {
+            self.meet(Met::Alignment(shown));
         }
         Ok(summary)
     }

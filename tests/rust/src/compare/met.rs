@@ -1,6 +1,6 @@
 //! What the comparison of a file meets.
 
-use super::{Partial, Registers, Tables, Variables};
+use super::{Alignment, Partial, Registers, Tables, Variables};
 use crate::c::Settings;
 use crate::second::Refusal;
 
@@ -37,6 +37,7 @@ pub enum Met {
         shown: Partial,
         big: bool,
     },
+    Alignment(Alignment),
 }
 
 /// What a trace shows of the base in which it is read.
@@ -102,13 +103,14 @@ impl Based {
 
 impl Met {
     /// How many there are.
-    pub const COUNT: usize = Met::PARTIAL + 2 * Partial::ALL.len();
+    pub const COUNT: usize = Met::ALIGNMENT + Alignment::COUNT;
 
-    /// The first number of those about register blocks, variables, frame tables, and frames by their numbers.
+    /// The first number of those about register blocks, variables, frame tables, frames by their numbers, and alignment.
     const REGISTERS: usize = Refusal::LAST as usize + 6 + Based::ALL.len();
     const VARIABLES: usize = Met::REGISTERS + 4 * Registers::ALL.len();
     const TABLES: usize = Met::VARIABLES + 2 * Variables::ALL.len();
     const PARTIAL: usize = Met::TABLES + 2 * Tables::ALL.len();
+    const ALIGNMENT: usize = Met::PARTIAL + 2 * Partial::ALL.len();
 
     /// A number of its own below the count.
     pub fn index(self) -> usize {
@@ -124,6 +126,7 @@ impl Met {
             Met::Variables { shown, big } => Met::VARIABLES + 2 * shown as usize + usize::from(big),
             Met::Tables { shown, big } => Met::TABLES + 2 * shown as usize + usize::from(big),
             Met::Partial { shown, big } => Met::PARTIAL + 2 * shown as usize + usize::from(big),
+            Met::Alignment(shown) => Met::ALIGNMENT + shown.index(),
         }
     }
 
@@ -147,7 +150,7 @@ impl Met {
         let refusals = (1..=Refusal::LAST).map(Met::Refusal);
         let marks = [false, true].map(Met::Marked);
         let bases = Based::ALL.map(Met::Based);
-        refusals.chain(marks).chain(Met::joins()).chain(bases).chain(Met::all_of_frames())
+        refusals.chain(marks).chain(Met::joins()).chain(bases).chain(Met::all_of_frames()).chain(Met::all_alignment())
     }
 
     /// All that is shown of frames, counted apart for each byte order.
@@ -176,6 +179,11 @@ impl Met {
     /// All that is shown of frame tables, in both byte orders.
     fn all_tables() -> impl Iterator<Item = Met> {
         Tables::ALL.into_iter().flat_map(|shown| [false, true].map(|big| Met::Tables { shown, big }))
+    }
+
+    /// All that is shown of alignment: each page size in both byte orders.
+    pub fn all_alignment() -> impl Iterator<Item = Met> {
+        Alignment::all().map(Met::Alignment)
     }
 
     /// All that is shown of frames by their numbers, in both byte orders.

@@ -1,5 +1,6 @@
 //! The comparison of a reader with the second one: every call, on one file or a pair, with outputs compared whole.
 
+mod alignment;
 mod dat;
 mod edit;
 mod gdb;
@@ -10,6 +11,7 @@ mod registers;
 pub mod tables;
 mod variables;
 
+pub use alignment::Alignment;
 pub use met::{Based, Met};
 pub use partial::Partial;
 pub use registers::Registers;

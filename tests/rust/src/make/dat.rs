@@ -257,6 +257,8 @@ impl Dat {
     }
 }
 
+pub const PAGE_SIZES: [u32; 7] = [1_024, 2_048, 4_096, 8_192, 16_384, 32_768, 65_536];
+
 /// Mostly the smallest, for the files' size.
 fn any_page_size(random: &mut Random) -> u32 {
     if random.one_in(60) {

@@ -1,6 +1,6 @@
 //! trace.dat files at both sides of each edge of the rules, each with the refusal that its making settles.
 
-use super::dat::{data, wild, Dat, Ending, Field, Range, System};
+use super::dat::{data, wild, Dat, Ending, Field, Range, System, PAGE_SIZES};
 use super::{put_at, Made, Random};
 use crate::second::Refusal;
 
@@ -101,7 +101,7 @@ fn wrong_flag(random: &mut Random) -> Made {
 fn page_size(random: &mut Random) -> Made {
     let right = random.one_in(2);
     let page_size = if right {
-        random.pick(&[1_024, 2_048, 4_096, 8_192, 16_384, 32_768, 65_536])
+        random.pick(&PAGE_SIZES)
     } else {
         random.pick(&[0, 1, 512, 1_000, 1_023, 1_025, 3_072, 4_097, 65_535, 65_537, 131_072, 1 << 31, u32::MAX])
     };
@@ -212,16 +212,19 @@ fn cpu_count(random: &mut Random) -> Made {
     made("CPU count", &dat, None)
 }
 
-/// A range that starts off a page's start.
+/// A range that starts on a page's start, or off it by one bit below the page size, by half a page or by all those bits.
 fn misaligned(random: &mut Random) -> Made {
-    let mut dat = with_cpus(random);
+    let page_size = random.pick(&PAGE_SIZES);
+    let page = u64::from(page_size);
+    let mut dat = Dat::sections(random, page_size);
+    dat.lay_out(random, &[1, 0, 1]);
     let cpu = held_cpu(random, &mut dat);
+    let bit = 1 << random.below(page.trailing_zeros() as usize);
+    let off = random.pick(&[0, 0, 1, bit, page / 2, page - 1]);
     let range = &mut dat.ranges()[cpu];
-    range.offset += random.pick(&[0, 1, 2, 256, 512, PAGE - 1]);
-    let wrong = !range.offset.is_multiple_of(PAGE);
-    range.size = 1;
-    dat.length += PAGE as usize;
-    made("alignment", &dat, wrong.then_some(Refusal::BadRange))
+    *range = Range { offset: range.offset + off, size: 1 };
+    dat.length += page_size as usize;
+    made("alignment", &dat, (off > 0).then_some(Refusal::BadRange))
 }
 
 /// A range that starts where the header ends, or on the page's start one byte, or more, before that.
@@ -244,7 +247,7 @@ fn past_file_end(random: &mut Random) -> Made {
     made("file's end", &dat, (short > 0).then_some(Refusal::BadRange))
 }
 
-/// A range whose end is beyond what 64 bits hold, or only just not.
+/// A range whose end is beyond what 64 bits hold, or only just not; one that starts in the file but for a high bit.
 fn wrapping_range(random: &mut Random) -> Made {
     let mut dat = with_cpus(random);
     let cpu = held_cpu(random, &mut dat);
@@ -261,6 +264,8 @@ fn wrapping_range(random: &mut Random) -> Made {
         (start, start.wrapping_neg()),
         (start, start.wrapping_neg() + 1),
         (1 << 63, 1 << 63),
+        (start + (1 << 32), 1),
+        (start + (1 << 63), 1),
     ]);
     dat.ranges()[cpu] = Range { offset, size };
     made("wrapping range", &dat, Some(Refusal::BadRange))
