@@ -377,6 +377,6 @@ cases-hold =
     let of-tails : Each Holds tails = (refl, (refl, (refl, (refl, (refl, (refl, tt)))))) in
     let of-ranges : Each Holds ranges = (refl, (refl, (refl, (refl, (refl, (refl, (refl, (refl, (refl, (refl, (refl, (refl, (refl, tt))))))))))))) in
     let of-alignments : Each Holds alignments =
-        (refl, (refl, (refl, (refl, (refl, (refl, (refl, (refl, (refl, (refl, (refl, (refl, (refl, (refl, (refl, (refl, tt)))))))))))))))) in
+    (refl, (refl, (refl, (refl, (refl, (refl, (refl, (refl, (refl, (refl, (refl, (refl, (refl, (refl, (refl, (refl, tt)))))))))))))))) in
     let of-wholes : Each Holds wholes = (refl, (refl, (refl, (refl, (refl, (refl, (refl, (refl, tt)))))))) in
     (of-papers, (of-strings, (of-laterStrings, (of-numbers, (of-tails, (of-ranges, (of-alignments, (of-wholes, tt))))))))

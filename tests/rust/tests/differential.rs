@@ -174,7 +174,7 @@ fn dat_files() {
     let often = dats.tally.files / 100;
     let refusals = [12, 14, 15, 16, 17].map(|number| (Met::Refusal(number), often));
     // These are counted apart for each page size and byte order.
-    let alignment = Met::all_alignment().map(|met| (met, often / 20));
+    let alignment = Met::all_alignment().map(|met| (met, often / 30));
     let least: Vec<_> = refusals.into_iter().chain([(Met::Refusal(1), 3)]).chain(alignment).collect();
     dats.tally.finish(&least);
 }

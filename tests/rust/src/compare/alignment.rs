@@ -1,9 +1,9 @@
 //! What a trace.dat file shows of where pages start.
 
-use crate::second::dat;
+use crate::second::dat::{self, CpuRange};
 use crate::second::Order;
 
-/// All CPU ranges that hold something lie between the header and the file's end, and start where pages of this size do, or not all.
+/// All CPU ranges that hold something lie behind the header and in the file; whether they all start where pages of this size do.
 #[derive(Clone, Copy, Debug, PartialEq, Eq)]
 pub struct Alignment {
     /// The page size is 2 to the power of 10 and this.
@@ -27,14 +27,15 @@ impl Alignment {
 
     pub fn of_file(file: &[u8]) -> Option<Alignment> {
         let header = dat::header(file).ok()?;
-        let between = header.body.end() as u64..=file.len() as u64;
         let held: Vec<_> = dat::cpu_ranges(&header, file).filter(|range| range.size > 0).collect();
-        let ends = |range: &dat::CpuRange| range.offset.checked_add(range.size);
-        let placed = held.iter().all(|range| {
-            between.contains(&range.offset) && ends(range).is_some_and(|end| between.contains(&end))
-        });
+        let placed = held.iter().all(|range| lies_in(range, header.body.end() as u64, file.len() as u64));
         let aligned = held.iter().all(|range| range.offset.is_multiple_of(header.page_size.into()));
         let power = (header.page_size.trailing_zeros() - 10) as u8;
         (placed && !held.is_empty()).then_some(Alignment { power, aligned, big: header.order == Order::Big })
     }
+}
+
+/// Whether a range lies from the header's end on and within the file.
+fn lies_in(range: &CpuRange, header_end: u64, file_end: u64) -> bool {
+    header_end <= range.offset && range.offset.checked_add(range.size).is_some_and(|end| end <= file_end)
 }

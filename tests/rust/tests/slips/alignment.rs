@@ -29,7 +29,10 @@ pub const SLIPS: [Slip; 5] = [
     ("the mask without its highest bit", off_by!(|offset, page| offset & (page / 2 - 1))),
     ("the size itself as the mask", off_by!(|offset, page| offset & page)),
     ("one mask for every size", off_by!(|offset, page| offset & (page.min(1_024) - 1))),
-    ("the low 32 bits of an offset", Reader { dat_read: |file| read_with(file, bad_by_low_bits, two_overlap), ..SECOND }),
+    (
+        "the low 32 bits of an offset",
+        Reader { dat_read: |file| read_with(file, bad_by_low_bits, two_overlap), ..SECOND },
+    ),
 ];
 
 /// All that the bits below the size tell.
