@@ -15,8 +15,8 @@ ARCHIVE = Path(os.environ.get('TUFAKPENI_ARCHIVE') or ROOT / 'target/staticlib/l
 FUNCTION = re.compile(r'^[0-9a-f]+ <(.*)>:$')
 INSTRUCTION = re.compile(r'^ *[0-9a-f]+:\t(.*)$')
 NAMED = re.compile(r'<[^>]*>')
-# div, idiv, divss, vdivpd, fdiv, fidiv, fprem and their like, behind any prefix. What cannot be told counts too.
-DIVIDES = re.compile(r'div|rem|\(bad\)')
+# div, idiv, divss, vdivpd, fdiv, fidiv, fprem and their like, behind any prefix, and reciprocals. What cannot be told counts too.
+DIVIDES = re.compile(r'div|rem|rcp|\(bad\)')
 # What compilers call for bytes. Where no instruction will do they call other functions, as __udivti3 to divide.
 KNOWN = {'memcpy', 'memmove', 'memset', 'memcmp', 'bcmp'}
 
@@ -37,9 +37,10 @@ def instructions(archive):
 
 
 def called_outside(archive):
-    """The names that an archive uses and does not have."""
+    """The names that an archive uses and does not have, those that may be missing among them (w, v)."""
     names = [line.split()[:2] for line in told_by('nm', '-P', '-g', archive) if not line.endswith(':')]
-    return {name for name, kind in names if kind == 'U'} - {name for name, kind in names if kind != 'U'}
+    own = {name for name, kind in names if kind not in 'Uwv'}
+    return {name for name, _ in names} - own
 
 
 def divisions(archive):

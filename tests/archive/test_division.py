@@ -1,4 +1,4 @@
-"""No instruction of the library divides or takes a remainder; and the test would notice one of any kind."""
+"""No instruction of the library divides or takes a remainder; and the test would notice one of any kind that compilers make."""
 import subprocess
 import tempfile
 import unittest
@@ -17,6 +17,8 @@ DIVIDE = {
     'vectors': 'typedef float v __attribute__((vector_size(16))); v f(v a, v b) { return a / b; }',
     'wide vectors': 'typedef double v __attribute__((vector_size(32))); '
                     '__attribute__((target("avx"))) void f(v *a, const v *b) { *a /= *b; }',
+    'a reciprocal': 'typedef float v __attribute__((vector_size(16))); v f(v a) { return __builtin_ia32_rcpps(a); }',
+    'what may be missing': '__attribute__((weak)) int other(int a); int f(int a) { return other(a) + 1; }',
     'behind a prefix': 'void f(void) { __asm__ volatile (".byte 0x2e, 0x48, 0xf7, 0xf1"); }',
     'what is no instruction': 'void f(void) { __asm__ volatile (".byte 0x06"); }',
     'the alignment test as it was': 'int f(uint64_t page, uint64_t offset) { return offset % page == 0; }',

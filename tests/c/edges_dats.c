@@ -161,37 +161,71 @@ static void every_range(void)
     }
 }
 
-/* One CPU whose range of one byte starts at this offset, in a file of two pages of which only the header is written: no answer goes by
- * the pages. */
-static void one_range(uint8_t order, uint32_t page, uint64_t offset, uint8_t refusal)
+/* A file of one CPU, of which only the header is written: no answer goes by the pages. */
+typedef struct {
+    uint8_t order;
+    uint32_t page;
+    size_t length;
+    uint8_t *bytes;
+} paged;
+
+static void one_range(const paged *file, uint64_t offset, uint64_t size, uint8_t refusal)
 {
-    made header = start(order, (fault){.page_size = page, .cpu_count = 1});
+    made header = start(file->order, (fault){.page_size = file->page, .cpu_count = 1});
     put(&header, "flyrecord", 10);
     put_number(&header, offset, 8);
-    put_number(&header, 1, 8);
-    size_t length = 2 * (size_t)page;
-    uint8_t *bytes = memcpy(unwritten(length), header.bytes, header.length);
-    tfk_dat_summary answer = tfk_dat_read(bytes, length);
+    put_number(&header, size, 8);
+    memcpy(file->bytes, header.bytes, header.length);
+    tfk_dat_summary answer = tfk_dat_read(file->bytes, file->length);
     about = offset;
-    CHECK(answer.refusal == refusal && answer.page_size == (refusal ? 0 : page));
-    CHECK(is_range(tfk_dat_cpu_range(bytes, length, 0), refusal, refusal ? 0 : offset, refusal ? 0 : 1));
-    free(bytes);
+    CHECK(answer.refusal == refusal && answer.page_size == (refusal ? 0 : file->page));
+    CHECK(is_range(tfk_dat_cpu_range(file->bytes, file->length, 0), refusal, refusal ? 0 : offset, refusal ? 0 : size));
 }
 
-/* A page's start; off it by each bit below the page size, by all of them, by one before it; the same far past the file. */
+/* Ranges of a byte, of two, and to the file's end. */
+static void ranges_from(const paged *file, uint64_t offset, uint8_t refusal)
+{
+    one_range(file, offset, 1, refusal);
+    one_range(file, offset, 2, refusal);
+    one_range(file, offset, file->length - offset, refusal);
+}
+
+/* From a page's start on; off it by each bit below the page size, by two, by three quarters of a page, by all but one and one too few. */
+static void on_and_off(const paged *file, uint64_t start_of_page)
+{
+    uint32_t page = file->page;
+    ranges_from(file, start_of_page, 0);
+    for (uint32_t bit = 1; bit < page; bit *= 2) {
+        ranges_from(file, start_of_page + bit, TFK_BAD_RANGE);
+    }
+    ranges_from(file, start_of_page + 3, TFK_BAD_RANGE);
+    ranges_from(file, start_of_page + page / 4 * 3, TFK_BAD_RANGE);
+    ranges_from(file, start_of_page + page - 2, TFK_BAD_RANGE);
+    ranges_from(file, start_of_page - 1, TFK_BAD_RANGE);
+}
+
 static void alignment(uint8_t order, uint32_t page)
 {
+    paged file = {order, page, 2 * (size_t)page, unwritten(2 * (size_t)page)};
     begin("a range on a page's start and off it");
-    one_range(order, page, page, 0);
-    for (uint32_t bit = 1; bit < page; bit *= 2) {
-        one_range(order, page, page + bit, TFK_BAD_RANGE);
-    }
-    one_range(order, page, 2 * page - 1, TFK_BAD_RANGE);
-    one_range(order, page, page - 1, TFK_BAD_RANGE);
+    on_and_off(&file, page);
     for (unsigned high = 32; high < 64; high++) {
-        one_range(order, page, (UINT64_C(1) << high) + page, TFK_BAD_RANGE);
-        one_range(order, page, (UINT64_C(1) << high) + page / 2, TFK_BAD_RANGE);
+        one_range(&file, (UINT64_C(1) << high) + page, 1, TFK_BAD_RANGE);
     }
+    free(file.bytes);
+    end();
+}
+
+/* The same far into a file as long as may be. */
+static void far_alignment(uint8_t order, uint32_t page)
+{
+    paged file = {order, page, LIMIT, unwritten(LIMIT)};
+    begin("a range on a far page's start and off it");
+    for (uint64_t far = 2 * (uint64_t)page; far < LIMIT; far *= 2) {
+        on_and_off(&file, far + page);
+    }
+    on_and_off(&file, LIMIT - page);
+    free(file.bytes);
     end();
 }
 
@@ -199,6 +233,7 @@ static void every_page_size(uint8_t order)
 {
     for (uint32_t page = 1024; page <= 65536; page *= 2) {
         alignment(order, page);
+        far_alignment(order, page);
     }
 }
 

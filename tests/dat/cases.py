@@ -168,15 +168,17 @@ def wrong_ranges():
 
 
 def alignments():
-    """Of each page size: a page's start, off it by each bit below the size, by all of them and by half a page, and the same past 2^32."""
+    """Of each page size: a page's start, and off it by each bit below the size, by several, by all of them and by half a page; then past the file."""
     for order in ('little', 'big'):
         for page in PAGES:
-            yield padded(f'a start of pages of {page}', flyrecord(((page, 1),), order, 8, page), 2 * page)
-            off = [2 ** k for k in range(page.bit_length() - 1)] + [page - 1, -1, -(page // 2)]
-            far = [2 ** k + d for k in (32, 33, 63) for d in (0, page // 2)]
-            for offset in [page + d for d in off + far]:
-                h = flyrecord(((offset, 1),), order, 8, page)
-                yield f'{offset} with pages of {page}', h.bytes + bytes(2 * page - len(h.bytes)), RANGE
+            for size in (1, 2, page):
+                yield padded(f'{size} from a start of pages of {page}', flyrecord(((page, size),), order, 8, page), 2 * page)
+            off = [2 ** k for k in range(page.bit_length() - 1)] + [3, page // 4 * 3, page - 1, -1, -(page // 2)]
+            inside = [(page + d, size) for d in off for size in (1, page - d)]
+            past = [(page + 2 ** k, 1) for k in (32, 33, 63)]
+            for offset, size in inside + past:
+                h = flyrecord(((offset, size),), order, 8, page)
+                yield f'{size} from {offset} with pages of {page}', h.bytes + bytes(2 * page - len(h.bytes)), RANGE
 
 
 GROUPS = (smallest, strings, flags, sections, cpu_counts, options, endings, sound_ranges, wrong_ranges, alignments)

@@ -346,6 +346,9 @@ alignments =
     no (paged 0x80 0 (at 0 0x40 0) 32656) 16 ∷
     cpu 0 (paged 0 1 (at 0 0 1) 65424) (accepted (65536, 1)) ∷
     no (paged 0 1 (at 0 0x80 0) 65424) 16 ∷
+    -- three bytes behind the start, with more than a byte and up to the file's end
+    no (ranged 1 (entry 3 4 2 0) 2959) 16 ∷
+    no (ranged 1 (entry 3 4 0xFD 7) 2959) 16 ∷
     -- a byte behind the start; 1,024 with the bit of 2 ^ 32, which is past the file
     no (paged 0 1 (at 1 0 1) 65425) 16 ∷
     no (paged 4 0 (0 ∷ 4 ∷ 0 ∷ 0 ∷ 1 ∷ 0 ∷ 0 ∷ 0 ∷ []) 912) 16 ∷ []
@@ -377,6 +380,6 @@ cases-hold =
     let of-tails : Each Holds tails = (refl, (refl, (refl, (refl, (refl, (refl, tt)))))) in
     let of-ranges : Each Holds ranges = (refl, (refl, (refl, (refl, (refl, (refl, (refl, (refl, (refl, (refl, (refl, (refl, (refl, tt))))))))))))) in
     let of-alignments : Each Holds alignments =
-    (refl, (refl, (refl, (refl, (refl, (refl, (refl, (refl, (refl, (refl, (refl, (refl, (refl, (refl, (refl, (refl, tt)))))))))))))))) in
+    (refl, (refl, (refl, (refl, (refl, (refl, (refl, (refl, (refl, (refl, (refl, (refl, (refl, (refl, (refl, (refl, (refl, (refl, tt)))))))))))))))))) in
     let of-wholes : Each Holds wholes = (refl, (refl, (refl, (refl, (refl, (refl, (refl, (refl, tt)))))))) in
     (of-papers, (of-strings, (of-laterStrings, (of-numbers, (of-tails, (of-ranges, (of-alignments, (of-wholes, tt))))))))

@@ -212,7 +212,7 @@ fn cpu_count(random: &mut Random) -> Made {
     made("CPU count", &dat, None)
 }
 
-/// A range that starts on a page's start, or off it by one bit below the page size, by half a page or by all those bits.
+/// A range that starts on a page's start, or off it: by one bit below the page size, by half a page, by all those bits, by any of them.
 fn misaligned(random: &mut Random) -> Made {
     let page_size = random.pick(&PAGE_SIZES);
     let page = u64::from(page_size);
@@ -220,9 +220,10 @@ fn misaligned(random: &mut Random) -> Made {
     dat.lay_out(random, &[1, 0, 1]);
     let cpu = held_cpu(random, &mut dat);
     let bit = 1 << random.below(page.trailing_zeros() as usize);
-    let off = random.pick(&[0, 0, 1, bit, page / 2, page - 1]);
+    let any = 1 + random.below(page_size as usize - 1) as u64;
+    let off = random.pick(&[0, 0, 1, bit, page / 2, page - 1, any, any]);
     let range = &mut dat.ranges()[cpu];
-    *range = Range { offset: range.offset + off, size: 1 };
+    *range = Range { offset: range.offset + off, size: random.pick(&[1, page - off]) };
     dat.length += page_size as usize;
     made("alignment", &dat, (off > 0).then_some(Refusal::BadRange))
 }

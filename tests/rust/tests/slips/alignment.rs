@@ -5,16 +5,16 @@ use tufakpeni_tests::answers::SECOND;
 use tufakpeni_tests::reader::Reader;
 use tufakpeni_tests::second::dat::CpuRange;
 
-/// A reader that takes an offset to be off by these bits of it, given the page size.
+/// A reader that takes a range to be off a page's start by these bits, given the page size.
 macro_rules! off_by {
-    (|$offset:ident, $page:ident| $bits:expr) => {
+    (|$range:ident, $page:ident| $bits:expr) => {
         Reader {
             dat_read: |file| {
                 read_with(
                     file,
-                    |&CpuRange { offset: $offset, size }, &Bounds { page: $page, header_end, file_end }| {
-                        let past = end(&CpuRange { offset: $offset, size }) > file_end.into();
-                        size > 0 && ($bits != 0 || $offset < header_end || past)
+                    |$range, bounds| {
+                        let $page = bounds.page;
+                        $range.size > 0 && ($bits != 0 || misplaced($range, bounds))
                     },
                     two_overlap,
                 )
@@ -24,11 +24,13 @@ macro_rules! off_by {
     };
 }
 
-pub const SLIPS: [Slip; 5] = [
-    ("the mask without its lowest bit", off_by!(|offset, page| offset & (page - 2))),
-    ("the mask without its highest bit", off_by!(|offset, page| offset & (page / 2 - 1))),
-    ("the size itself as the mask", off_by!(|offset, page| offset & page)),
-    ("one mask for every size", off_by!(|offset, page| offset & (page.min(1_024) - 1))),
+pub const SLIPS: [Slip; 7] = [
+    ("the mask without its lowest bit", off_by!(|range, page| range.offset & (page - 2))),
+    ("the mask without its highest bit", off_by!(|range, page| range.offset & (page / 2 - 1))),
+    ("the size itself as the mask", off_by!(|range, page| range.offset & page)),
+    ("one mask for every size", off_by!(|range, page| range.offset & (page.min(1_024) - 1))),
+    ("ranges of one byte alone", off_by!(|range, page| if range.size == 1 { range.offset & (page - 1) } else { 0 })),
+    ("several bits let through", off_by!(|range, page| one_bit_or_all(range.offset & (page - 1), page))),
     (
         "the low 32 bits of an offset",
         Reader { dat_read: |file| read_with(file, bad_by_low_bits, two_overlap), ..SECOND },
@@ -36,8 +38,20 @@ pub const SLIPS: [Slip; 5] = [
 ];
 
 /// All that the bits below the size tell.
-pub const LOW_BITS: Reader = off_by!(|offset, page| offset & (page - 1));
+pub const LOW_BITS: Reader = off_by!(|range, page| range.offset & (page - 1));
+
+fn misplaced(range: &CpuRange, bounds: &Bounds) -> bool {
+    range.offset < bounds.header_end || end(range) > bounds.file_end.into()
+}
 
 fn bad_by_low_bits(range: &CpuRange, bounds: &Bounds) -> bool {
     bad(&CpuRange { offset: range.offset % (1 << 32), ..*range }, bounds)
+}
+
+fn one_bit_or_all(off: u64, page: u64) -> u64 {
+    if off.is_power_of_two() || off == page - 1 {
+        off
+    } else {
+        0
+    }
 }
