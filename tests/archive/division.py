@@ -2,7 +2,7 @@
 
     python3 tests/archive/division.py [ARCHIVE]
 
-prints each with its function, and calls of what is not in the archive, which may divide. The exit status is 0 only where there are none."""
+prints each with its function, and each name that the archive uses and does not have, which may divide. The exit status is 0 only where there are none."""
 import os
 import re
 import subprocess
@@ -17,8 +17,6 @@ INSTRUCTION = re.compile(r'^ *[0-9a-f]+:\t(.*)$')
 NAMED = re.compile(r'<[^>]*>')
 # div, idiv, divss, vdivpd, fdiv, fidiv, fprem and their like, behind any prefix, and reciprocals. What cannot be told counts too.
 DIVIDES = re.compile(r'div|rem|rcp|\(bad\)')
-# What compilers call for bytes. Where no instruction will do they call other functions, as __udivti3 to divide.
-KNOWN = {'memcpy', 'memmove', 'memset', 'memcmp', 'bcmp'}
 
 
 def told_by(*words):
@@ -44,12 +42,13 @@ def called_outside(archive):
 
 
 def divisions(archive):
-    """What divides, or may: instructions with their functions, and calls of what is not in the archive and not known."""
+    """What divides, or may: instructions with their functions, and names that the archive does not have. Where no instruction will do
+    a compiler calls a function, as __udivti3."""
     every = list(instructions(archive))
     if not every:
         raise ValueError(f'{archive} has no instructions')
     found = [f'{function}: {text}' for function, text in every if DIVIDES.search(text)]
-    return found + [f'calls {name}' for name in sorted(called_outside(archive) - KNOWN)]
+    return found + [f'calls {name}' for name in sorted(called_outside(archive))]
 
 
 def main(archive=ARCHIVE):

@@ -190,7 +190,7 @@ static void ranges_from(const paged *file, uint64_t offset, uint8_t refusal)
     one_range(file, offset, file->length - offset, refusal);
 }
 
-/* From a page's start on; off it by each bit below the page size, by two, by three quarters of a page, by all but one and one too few. */
+/* From a page's start on, and off it: by each bit below the page size, by several of them, by a byte before it. */
 static void on_and_off(const paged *file, uint64_t start_of_page)
 {
     uint32_t page = file->page;

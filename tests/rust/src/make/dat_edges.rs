@@ -42,7 +42,12 @@ fn settled(refusal: Option<Refusal>) -> Option<u8> {
 
 /// A file with CPUs that hold one page each, and with empty ones between them.
 fn with_cpus(random: &mut Random) -> Dat {
-    let mut dat = Dat::sections(random, PAGE as u32);
+    with_pages(random, PAGE as u32)
+}
+
+/// The same with pages of this size.
+fn with_pages(random: &mut Random, page_size: u32) -> Dat {
+    let mut dat = Dat::sections(random, page_size);
     let pages: Vec<_> = (0..2 + random.below(5)).map(|_| random.pick(&[0, 1, 1])).chain([1, 1]).collect();
     dat.lay_out(random, &pages);
     dat
@@ -216,8 +221,7 @@ fn cpu_count(random: &mut Random) -> Made {
 fn misaligned(random: &mut Random) -> Made {
     let page_size = random.pick(&PAGE_SIZES);
     let page = u64::from(page_size);
-    let mut dat = Dat::sections(random, page_size);
-    dat.lay_out(random, &[1, 0, 1]);
+    let mut dat = with_pages(random, page_size);
     let cpu = held_cpu(random, &mut dat);
     let bit = 1 << random.below(page.trailing_zeros() as usize);
     let any = 1 + random.below(page_size as usize - 1) as u64;
