@@ -19,6 +19,7 @@ DIVIDE = {
                     '__attribute__((target("avx"))) void f(v *a, const v *b) { *a /= *b; }',
     'a reciprocal': 'typedef float v __attribute__((vector_size(16))); v f(v a) { return __builtin_ia32_rcpps(a); }',
     'what may be missing': '__attribute__((weak)) int other(int a); int f(int a) { return other(a) + 1; }',
+    'memory copied': 'void *memcpy(void *, const void *, unsigned long); void f(char *a, char *b, unsigned long n) { memcpy(a, b, n); }',
     'behind a prefix': 'void f(void) { __asm__ volatile (".byte 0x2e, 0x48, 0xf7, 0xf1"); }',
     'what is no instruction': 'void f(void) { __asm__ volatile (".byte 0x06"); }',
     'the alignment test as it was': 'int f(uint64_t page, uint64_t offset) { return offset % page == 0; }',
@@ -27,6 +28,7 @@ NOT = {
     'a constant': 'uint64_t f(uint64_t a) { return a / 10 + a % 1000; }',
     'the low bits': 'int f(uint64_t page, uint64_t offset) { return (offset & (page - 1)) == 0; }',
     'a name': 'int division(int a); int remainder_of(int a) { return division(a); } int division(int a) { return a + 1; }',
+    'memory filled': 'void *memset(void *, int, unsigned long); void f(char *a, unsigned long n) { memset(a, 0, n); }',
     'data': 'const unsigned char div[] = {0xf7, 0xf1}; int f(int a) { return div[a & 1]; }',
 }
 

@@ -17,5 +17,6 @@ int main(void)
     variables();
     limits();
     dats();
+    overlaps();
     return report();
 }

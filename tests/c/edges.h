@@ -12,5 +12,6 @@ void registers(void); /* frames with a second register block, and their neighbou
 void variables(void); /* which block of a variable counts */
 void limits(void);    /* the longest file and one byte more */
 void dats(void);      /* trace.dat headers */
+void overlaps(void);  /* CPU ranges that touch and overlap, in the longest file */
 
 #endif

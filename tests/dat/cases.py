@@ -167,6 +167,25 @@ def wrong_ranges():
         yield 'an entry cut short before a misaligned range', h.bytes[:-1], PAST
 
 
+def borders():
+    """Ranges on both sides of a border, at that of 64 units of 1,024 bytes and around it, either of them first: touching, and with a byte in common."""
+    for order in ('little', 'big'):
+        for page in (1024, 4096):
+            for border in (65536 - page, 65536, 65536 + page):
+                for name, one, other, number in (
+                    ('touching', (page, border - page), (border, 131072 - border), None),
+                    ('a byte between', (page, border - page - 1), (border, 1), None),
+                    ('a byte in common', (page, border - page + 1), (border, 131072 - border), OVERLAP),
+                    ('one page in common', (page, border), (border, page), OVERLAP),
+                    ('the last page twice', (page, 131072 - page), (131072 - page, 1), OVERLAP),
+                    ('the page before the border twice', (page, border - page), (border - page, 1), OVERLAP),
+                ):
+                    for ranges in ((one, other), (other, one)):
+                        h = flyrecord(ranges, order, 8, page)
+                        listed = h.listing() if number is None else number
+                        yield f'{name} at {border}', h.bytes + bytes(131072 - len(h.bytes)), listed
+
+
 def alignments():
     """Of each page size: a page's start, and off it by each bit below the size, by several, by all of them and by half a page; then past the file."""
     for order in ('little', 'big'):
@@ -181,4 +200,4 @@ def alignments():
                 yield f'{size} from {offset} with pages of {page}', h.bytes + bytes(2 * page - len(h.bytes)), RANGE
 
 
-GROUPS = (smallest, strings, flags, sections, cpu_counts, options, endings, sound_ranges, wrong_ranges, alignments)
+GROUPS = (smallest, strings, flags, sections, cpu_counts, options, endings, sound_ranges, wrong_ranges, borders, alignments)

@@ -5,6 +5,7 @@ pub mod Tests
 pub mod Pages
 pub mod Alignment
 pub mod RangeLaws
+pub mod Units
 pub mod Decode
 pub mod ExactPieces
 pub mod ExactSections

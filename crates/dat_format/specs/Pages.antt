@@ -50,7 +50,7 @@ grows : (i j : ℕ) → i ≤ j → 2 ^ i ≤ 2 ^ j
 grows i j h = pow-le-pow-right (omega arith) h
 
 -- the exponent is 10 to 16: below it the power is too small, above it too large
-exponent : (k : ℕ) → 1024 ≤ 2 ^ k → 2 ^ k ≤ 65536 → (10 ≤ k) × (k ≤ 16)
+pub exponent : (k : ℕ) → 1024 ≤ 2 ^ k → 2 ^ k ≤ 65536 → (10 ≤ k) × (k ≤ 16)
 exponent k a b = (
   by-cases (decLe 10 k) (λ h. h) (λ h. absurd (omega (arith, grows k 9 (omega (arith, lt-of-not-le h))))),
   by-cases (decLe k 16) (λ h. h) (λ h. absurd (omega (arith, grows 17 k (omega (arith, lt-of-not-le h))))),

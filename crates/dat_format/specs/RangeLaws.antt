@@ -73,12 +73,12 @@ all-each t P is (a ∷ l) = (
 pub all-in-file : (page end total : ℕ) (rs : List Range) → (all (inFile page end total) rs ≡ true) ↔ Each (LiesInFile page end total) rs
 all-in-file page end total = all-each (inFile page end total) (LiesInFile page end total) (in-file-is page end total)
 
+pub apart-from : (r : Range) (rs : List Range) → (all (apart r) rs ≡ true) ↔ Each (NoneInBoth r) rs
+apart-from r = all-each (apart r) (NoneInBoth r) (apart-is r)
+
 pub none-overlap : (rs : List Range) → (allApart rs ≡ true) ↔ EachTwo NoneInBoth rs
 none-overlap [] = ((λ e. tt), (λ h. refl))
 none-overlap (r ∷ rs) = (
-  (λ e. let q = and-inv (all (apart r) rs) (allApart rs) e in (later .0 (q .0), (none-overlap rs) .0 (q .1))),
-  (λ h. rw (later .1 (h .0), (none-overlap rs) .1 (h .1))),
+  (λ e. let q = and-inv (all (apart r) rs) (allApart rs) e in ((apart-from r rs) .0 (q .0), (none-overlap rs) .0 (q .1))),
+  (λ h. rw ((apart-from r rs) .1 (h .0), (none-overlap rs) .1 (h .1))),
 )
-  where
-    later : (all (apart r) rs ≡ true) ↔ Each (NoneInBoth r) rs
-    later = all-each (apart r) (NoneInBoth r) (apart-is r) rs

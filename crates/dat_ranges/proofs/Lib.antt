@@ -1,2 +1,5 @@
-pub mod RangeLaws
+pub mod BitLaws
+pub mod MapLaws
 pub mod EntryLaws
+pub mod ApartLaws
+pub mod RangeLaws

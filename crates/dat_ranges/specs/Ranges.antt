@@ -5,16 +5,14 @@ use mathlib.Core.Bool.{Bool, true, cond, _&&_}
 use Prim.Native.Nat.{ℕ, _+_, _*_, _≤_}
 use mathlib.Core.List.{List, [], _∷_}
 use lib.ListN.{length}
-use lib.Dec.{leb, eqb}
+use lib.Dec.{leb}
 use borrow.Author.Tests.{le-leb}
+use Rattle.refusals.specs.Refusal.{limit}
 use Rattle.fields.specs.declared.Order.{Order}
 use Rattle.dat_format.specs.Header.{Range}
-use Rattle.dat_format.specs.Tests.{isPage, inFile, apart, all, allApart}
+use Rattle.dat_format.specs.Tests.{isPage, inFile, all, allApart}
 use Rattle.dat_format.specs.Entries.{entries}
-use Rattle.dat_ranges.specs.declared.Later.{Later}
-use Rattle.dat_ranges.specs.declared.Later.the-variants.{At, Not}
 use Rattle.dat_ranges.specs.declared.Test.{Test}
-use Rattle.dat_ranges.specs.declared.Test.the-variants.{InFile, Apart}
 use Rattle.dat_ranges.specs.declared.Judgement.{Judgement}
 use Rattle.dat_ranges.specs.declared.Judgement.the-variants.{Sound, Misplaced, Overlap}
 
@@ -22,13 +20,11 @@ abbrev pub rangeOf : ℕ → ℕ → Range
 rangeOf a n = record { offset = a; size = n }
 
 abbrev pub testMeaning : Test → Range → Bool
-testMeaning (InFile page end total) = inFile page end total
-testMeaning (Apart a n) = apart (rangeOf a n)
+testMeaning t = inFile (t .page) (t .end) (t .total)
 
--- alignment is told for page sizes only
+-- alignment is told for page sizes only, and overlap in files up to the limit
 abbrev pub possible : Test → Bool
-possible (InFile page end total) = isPage page
-possible (Apart a n) = true
+possible t = leb (t .total) limit && isPage (t .page)
 
 -- ranges of which one does not pass are misplaced, whether two overlap or not
 abbrev pub judgement : (Range → Bool) → List Range → Judgement
@@ -41,15 +37,3 @@ judged t o s n from = cond (possible t && leb (from + 16 * n) (length s)) (judge
 pub judged-there : (t : Test) (o : Order) (s : List ℕ) (n from : ℕ) → possible t ≡ true → from + 16 * n ≤ length s
     → judged t o s n from ≡ judgement (testMeaning t) (entries o s n from)
 judged-there t o s n from e h = rw (e, le-leb (from + 16 * n) (length s) h)
-
--- ---- ranges in order
-
--- each range that holds something starts at `last` or later, and the next ones at its end or later
-abbrev pub inOrder : ℕ → List Range → Bool
-inOrder last [] = true
-inOrder last (r ∷ rs) = cond (eqb (r .size) 0) (inOrder last rs) (leb last (r .offset) && inOrder (r .offset + r .size) rs)
-
--- what may follow r where the order goes on at the answered end
-abbrev pub Leads : Later → ℕ → Range → Type 0
-Leads (At e) last r = (rs : List Range) → inOrder e rs ≡ true → inOrder last (r ∷ rs) ≡ true
-Leads Not last r = Unit {0}

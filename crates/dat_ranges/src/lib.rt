@@ -6,10 +6,15 @@ ghost use Prim.Native.Nat.{_+_, _*_, _≤_};
 ghost use lib.Dec.{leb};
 ghost use lib.ListN.{length};
 ghost use Rattle.dat_format.specs.Layout.{PageFits, Multiple};
-ghost use Rattle.dat_format.specs.Tests.{inFile, apart, all, allApart};
-ghost use Rattle.dat_format.specs.Entries.{entries};
-ghost use Rattle.dat_ranges.specs.Ranges.{rangeOf, testMeaning, possible, Leads, judgement, judged};
+ghost use Rattle.dat_format.specs.Tests.{inFile, all, allApart};
+ghost use Rattle.fields.specs.Lists.{Each};
+ghost use Rattle.dat_format.specs.Units.{OnUnits};
+ghost use Rattle.dat_format.specs.Entries.{entryAt, entries};
+ghost use Rattle.dat_ranges.specs.Ranges.{rangeOf, testMeaning, possible, judgement, judged};
 use fields::Order;
+use refusals::LIMIT;
+
+mod units;
 
 // Whether an offset is a multiple of the page size. That is a power of two, so the bits below it tell, and nothing is divided.
 fn is_aligned(page: u32, offset: u64) -> bool
@@ -47,52 +52,41 @@ fn in_file(page: u32, end: u64, total: u64, offset: u64, size: u64) -> bool
     ends_within(total, offset, size)
 }
 
-// Whether two CPUs' ranges do not overlap.
-fn are_apart(first: u64, first_size: u64, second: u64, second_size: u64) -> bool
-    ensures { λ r. ⌜ r ≡ apart (rangeOf first «first_size») (rangeOf second «second_size») ⌝ }
-{
-    if first_size == 0 {
-        return true;
-    }
-    if second_size == 0 {
-        return true;
-    }
-    if first <= second {
-        return first_size <= second - first;
-    }
-    second_size <= first - second
+// What each of several ranges is held to: the file's page size, its header's end and its length.
+pub struct Test {
+    pub page: u32,
+    pub end: u64,
+    pub total: u64,
 }
 
-// A test that each of several ranges may pass.
-pub enum Test {
-    InFile { page: u32, end: u64, total: u64 },
-    Apart { offset: u64, size: u64 },
+// A CPU's entry.
+pub(crate) struct Entry {
+    offset: u64,
+    size: u64,
 }
 
-fn passes(test: Test, offset: u64, size: u64) -> bool
-    requires { ⌜ possible test ≡ true ⌝ }
-    ensures { λ r. ⌜ r ≡ testMeaning test (rangeOf offset size) ⌝ }
+fn entry_at(s: &[u8], order: Order, at: usize) -> Entry
+    requires { ⌜ at + 16 ≤ length (now s) ⌝ }
+    ensures { λ r. ⌜ rangeOf (r .offset) (r .size) ≡ entryAt order (now (s .entry)) at ⌝ }
 {
-    match test {
-        Test::InFile { page, end, total } => in_file(page, end, total, offset, size),
-        Test::Apart {
-            offset: first,
-            size: first_size,
-        } => are_apart(first, first_size, offset, size),
+    let entry = &s[at..at + 16];
+    Entry {
+        offset: fields::u64_there(entry, order, 0),
+        size: fields::u64_there(entry, order, 8),
     }
 }
 
 // Whether each of n entries from `from` on passes.
 fn all_pass(s: &[u8], order: Order, test: Test, n: u32, from: usize) -> bool
-    requires { ⌜ (possible test ≡ true) × (from ≤ length (now s)) ⌝ }
+    requires { ⌜ (possible test ≡ true) × (from + 16 * n ≤ length (now s)) ⌝ }
     ensures { λ r. ⌜ r ≡ all (testMeaning test) (entries order (now (s .entry)) n from) ⌝ }
 {
+    let Test { page, end, total } = test;
     let mut at = from;
     let mut left = n;
     while 0 < left {
-        let offset = fields::u64_at(s, order, at);
-        let size = fields::u64_at(s, order, at + 8);
-        if !passes(test, offset, size) {
+        let entry = entry_at(s, order, at);
+        if !in_file(page, end, total, entry.offset, entry.size) {
             return false;
         }
         at += 16;
@@ -101,70 +95,18 @@ fn all_pass(s: &[u8], order: Order, test: Test, n: u32, from: usize) -> bool
     true
 }
 
-// Where ranges in order end, or that they are not in order.
-pub(crate) enum Later {
-    At(u64),
-    Not,
-}
-
-// The end after one range more, which must start at `last` or later; a range of size 0 moves nothing.
-fn end_after(last: u64, start: u64, length: u64) -> Later
-    ensures { λ r. ⌜ Leads r last (rangeOf start length) ⌝ }
-{
-    if length == 0 {
-        return Later::At(last);
-    }
-    let next = std::num::wrapping_add_u64(start, length);
-    if start < last {
-        return Later::Not;
-    }
-    if next < start {
-        return Later::Not;
-    }
-    Later::At(next)
-}
-
-// Whether n entries from `from` on are in order. Most files hold them so, and then no two overlap.
-fn in_order(s: &[u8], order: Order, n: u32, from: usize) -> bool
-    requires { ⌜ from ≤ length (now s) ⌝ }
-    ensures { λ r. ⌜ (r ≡ true → allApart (entries order (now (s .entry)) n from) ≡ true) ⌝ }
-{
-    let mut at = from;
-    let mut left = n;
-    let mut last: u64 = 0;
-    while 0 < left {
-        let offset = fields::u64_at(s, order, at);
-        let size = fields::u64_at(s, order, at + 8);
-        match end_after(last, offset, size) {
-            Later::Not => {
-                return false;
-            }
-            Later::At(end) => {
-                last = end;
-            }
-        }
-        at += 16;
-        left -= 1;
-    }
-    true
-}
-
-// Whether no two of n entries from `from` on overlap.
+// Whether no two of n entries from `from` on overlap. From the last to the first each claims its units, and finds those of the later ones taken.
 fn all_apart(s: &[u8], order: Order, n: u32, from: usize) -> bool
     requires { ⌜ from + 16 * n ≤ length (now s) ⌝ }
+    requires { ⌜ Each OnUnits (entries order (now s) n from) ⌝ }
     ensures { λ r. ⌜ r ≡ allApart (entries order (now (s .entry)) n from) ⌝ }
 {
-    if in_order(s, order, n, from) {
-        return true;
-    }
-    let mut at = from;
+    let mut map = units::no_units();
     let mut left = n;
     while 0 < left {
-        let offset = fields::u64_at(s, order, at);
-        let size = fields::u64_at(s, order, at + 8);
-        at += 16;
         left -= 1;
-        if !all_pass(s, order, Test::Apart { offset, size }, left, at) {
+        let entry = entry_at(s, order, from + 16 * (left as usize));
+        if !units::claim_range(&mut map, entry.offset, entry.size) {
             return false;
         }
     }
@@ -192,14 +134,14 @@ fn judge_in(s: &[u8], order: Order, test: Test, n: u32, from: usize) -> Judgemen
     Judgement::Misplaced
 }
 
-// Whether a test can be made: alignment is told for page sizes only.
+// Whether a test can be made: alignment is told for page sizes only, and the map of units is as long as the longest file.
 fn is_possible(test: Test) -> bool
     ensures { λ r. ⌜ r ≡ possible test ⌝ }
 {
-    match test {
-        Test::InFile { page, .. } => dat_format::is_page(page),
-        Test::Apart { .. } => true,
+    if (LIMIT as u64) < test.total {
+        return false;
     }
+    dat_format::is_page(test.page)
 }
 
 // Whether n entries from `from` on are all there.

@@ -113,7 +113,7 @@ entry a b c d = a ∷ b ∷ 0 ∷ 0 ∷ 0 ∷ 0 ∷ 0 ∷ 0 ∷ c ∷ d ∷ 0 �
 abbrev paged : ℕ → ℕ → List ℕ → ℕ → List ℕ
 paged low high offset k = empty (0 ∷ 8 ∷ 0 ∷ low ∷ high ∷ 0 ∷ []) (1 ∷ 0 ∷ 0 ∷ 0 ∷ flyrecord ++ offset ++ 1 ∷ replicate 7 0 ++ replicate k 0)
 
--- the three low bytes of an offset
+-- the three low bytes of an offset, or of a size
 abbrev at : ℕ → ℕ → ℕ → List ℕ
 at a b c = a ∷ b ∷ c ∷ replicate 5 0
 
@@ -353,6 +353,15 @@ alignments =
     no (paged 0 1 (at 1 0 1) 65425) 16 ∷
     no (paged 4 0 (0 ∷ 4 ∷ 0 ∷ 0 ∷ 1 ∷ 0 ∷ 0 ∷ 0 ∷ []) 912) 16 ∷ []
 
+abbrev borders : List Case
+borders =
+    -- up to 65,536, the end of 64 units of 1,024 bytes, and from there on, the lower first and last; a byte in common; the unit before it twice
+    read (ranged 2 (at 0 4 0 ++ at 0 0xFC 0 ++ at 0 0 1 ++ at 0 4 0) 66431) (plain Little 1024 2 Flyrecord 32) ∷
+    read (ranged 2 (at 0 0 1 ++ at 0 4 0 ++ at 0 4 0 ++ at 0 0xFC 0) 66431) (plain Little 1024 2 Flyrecord 32) ∷
+    no (ranged 2 (at 0 4 0 ++ at 1 0xFC 0 ++ at 0 0 1 ++ at 0 4 0) 66431) 17 ∷
+    no (ranged 2 (at 0 0 1 ++ at 0 4 0 ++ at 0 4 0 ++ at 1 0xFC 0) 66431) 17 ∷
+    no (ranged 2 (at 0 4 0 ++ at 0 0xFC 0 ++ at 0 0xFC 0 ++ at 1 0 0) 66431) 17 ∷ []
+
 abbrev wholes : List Case
 wholes =
     -- data in every section, and every part of the summary; then big, and a text
@@ -367,7 +376,7 @@ wholes =
     cpu 2 full (refused 16) ∷ []
 
 abbrev table : List (List Case)
-table = papers ∷ strings ∷ laterStrings ∷ numbers ∷ tails ∷ ranges ∷ alignments ∷ wholes ∷ []
+table = papers ∷ strings ∷ laterStrings ∷ numbers ∷ tails ∷ ranges ∷ alignments ∷ borders ∷ wholes ∷ []
 
 pub cases-hold : Each (Each Holds) table
 unfolding summed cpuRange summary decode header checked opening flags sizes sections system texts tail tailAfter word options ending range
@@ -381,5 +390,6 @@ cases-hold =
     let of-ranges : Each Holds ranges = (refl, (refl, (refl, (refl, (refl, (refl, (refl, (refl, (refl, (refl, (refl, (refl, (refl, tt))))))))))))) in
     let of-alignments : Each Holds alignments =
     (refl, (refl, (refl, (refl, (refl, (refl, (refl, (refl, (refl, (refl, (refl, (refl, (refl, (refl, (refl, (refl, (refl, (refl, tt)))))))))))))))))) in
+    let of-borders : Each Holds borders = (refl, (refl, (refl, (refl, (refl, tt))))) in
     let of-wholes : Each Holds wholes = (refl, (refl, (refl, (refl, (refl, (refl, (refl, (refl, tt)))))))) in
-    (of-papers, (of-strings, (of-laterStrings, (of-numbers, (of-tails, (of-ranges, (of-alignments, (of-wholes, tt))))))))
+    (of-papers, (of-strings, (of-laterStrings, (of-numbers, (of-tails, (of-ranges, (of-alignments, (of-borders, (of-wholes, tt)))))))))

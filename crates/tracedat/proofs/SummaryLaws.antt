@@ -30,8 +30,8 @@ use Rattle.dat_walk.specs.Steps.{walkMeaning}
 use Rattle.dat_walk.specs.Parts.{entries-are}
 use Rattle.dat_walk.specs.declared.Walked as code
 use Rattle.dat_walk.specs.declared.Walked.the-variants as walked
-use Rattle.dat_ranges.specs.Ranges.{rangeOf, judgement, judged, judged-there}
-use Rattle.dat_ranges.specs.declared.Test.the-variants.{InFile}
+use Rattle.dat_ranges.specs.Ranges.{rangeOf, possible, judgement, judged, judged-there}
+use Rattle.dat_ranges.specs.declared.Test.{Test}
 use Rattle.dat_ranges.specs.declared.Judgement.{Judgement}
 use Rattle.dat_ranges.specs.declared.Judgement.the-variants.{Sound, Misplaced, Overlap}
 use Rattle.tracedat.specs.Questions.{summed, summaryMeaning, cpuRange}
@@ -165,13 +165,19 @@ module _ {s : List ℕ} {sm : Summary} {end : ℕ} (w : HeaderFound s sm end) wh
   accept-text k = sound (sym (ap (λ e. judgement (inFile (h .opening .page) (length (encode h)) (length s)) (ranges e)) (is-text summarised k)))
 
   module _ (k : sm .ending ≡ Flyrecord) where
+    -- what the ranges are held to
+    abbrev test : Test
+    test = record { page = sm .flags .page; end = end; total = length s }
+
     abbrev Judged : Judgement → Type 0
-    Judged v = v ≡ judged (InFile (sm .flags .page) end (length s)) (sm .flags .order) s (sm .texts .cpus) (sm .body .place)
+    Judged v = v ≡ judged test (sm .flags .order) s (sm .texts .cpus) (sm .body .place)
+
+    can-be-made : possible test ≡ true
+    can-be-made = rw (le-leb (length s) limit (w .short), is-page summarised)
 
     checks-is : {v : Judgement} → Judged v → v ≡ checks
     checks-is e =
-        let test = InFile (sm .flags .page) end (length s) in
-        e ∙ judged-there test (sm .flags .order) s (sm .texts .cpus) (sm .body .place) (is-page summarised) (room summarised k)
+        e ∙ judged-there test (sm .flags .order) s (sm .texts .cpus) (sm .body .place) can-be-made (room summarised k)
         ∙ ap (judgement (inFile (sm .flags .page) end (length s))) (stored-are summarised k .1)
         ∙ ap₂ (λ p n. judgement (inFile p n (length s)) (ranges (h .tail .ending))) (sym (page-same summarised)) (sym end-is)
 

@@ -35,7 +35,7 @@ pub fn summary(file: &[u8]) -> SummaryAnswer
                     let order = flags.order;
                     let n = summary.texts.cpus;
                     let place = summary.body.place;
-                    let test = Test::InFile {
+                    let test = Test {
                         page: flags.page,
                         end: end as u64,
                         total: file.len() as u64,

@@ -173,9 +173,9 @@ fn dat_files() {
     }
     let often = dats.tally.files / 100;
     let refusals = [12, 14, 15, 16, 17].map(|number| (Met::Refusal(number), often));
-    // These are counted apart for each page size and byte order.
-    let alignment = Met::all_alignment().map(|met| (met, often / 30));
-    let least: Vec<_> = refusals.into_iter().chain([(Met::Refusal(1), 3)]).chain(alignment).collect();
+    // These are counted apart for each page size, sort of range and byte order.
+    let ranges = Met::all_ranges().map(|met| (met, often / 30));
+    let least: Vec<_> = refusals.into_iter().chain([(Met::Refusal(1), 3)]).chain(ranges).collect();
     dats.tally.finish(&least);
 }
 

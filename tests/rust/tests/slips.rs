@@ -14,6 +14,8 @@ use tufakpeni_tests::second::{Refusal, MAX_LENGTH};
 mod alignment;
 #[path = "slips/base.rs"]
 mod base;
+#[path = "slips/overlap.rs"]
+mod overlap;
 #[path = "slips/partial.rs"]
 mod partial;
 #[path = "slips/registers.rs"]
@@ -199,6 +201,16 @@ fn slips_about_alignment_are_seen() {
 #[test]
 fn the_bits_below_the_page_size_are_no_slip() {
     assert!(!seen_on_dats(&alignment::LOW_BITS));
+}
+
+#[test]
+fn slips_about_overlaps_are_seen() {
+    all_seen(&overlap::SLIPS, seen_on_dats);
+}
+
+#[test]
+fn units_of_1024_bytes_are_no_slip() {
+    assert!(!seen_on_dats(&overlap::UNITS));
 }
 
 #[test]

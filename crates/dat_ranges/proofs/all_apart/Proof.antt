@@ -1,49 +1,52 @@
--- `dat_ranges::all_apart` meets its contract. The loop's invariant: the entries left from `at` on lie apart where all do.
+-- `dat_ranges::all_apart` meets its contract. The loop's invariant: the entries behind those that are left have claimed their units, and lie apart.
 -- Assumes nothing.
-use mathlib.Core.Path.{refl, sym}
-use lib.ListN.{length}
 use borrow.Author.Tests.{not-true, not-false}
-use Rattle.dat_format.specs.Tests.{allApart, tested}
-use Rattle.dat_ranges.proofs.EntryLaws.{Entry, Left, left-start, apart-stop, apart-on, apart-end}
+use Rattle.dat_ranges.proofs.ApartLaws.{Walk, walk-start, next-on, walk-on, walk-stop, walk-end}
 use borrow.Author.Needs.{needs}
 use native.Mathlib.Omega.{arith}
 use Rattle.dat_ranges.proofs.all_apart.Statement.{statement}
 use Rattle.dat_ranges.proofs.all_apart.Tie as tie
 
 abbrev Inv-loop : tie.InvT-loop
-Inv-loop s order n from at₀ left₀ at left = Left allApart order s (length s) n from left at
+Inv-loop s order n from map₀ left₀ map left = Walk order s n from left map
 
 abbrev μ-loop : tie.MeasureT-loop
-μ-loop s order n from at₀ left₀ at left = left
+μ-loop s order n from map₀ left₀ map left = left
 
 abbrev Loop : Type 0
 Loop = tie.At-loop Inv-loop μ-loop
 
-abbrev start : Loop → tie.Start Inv-loop μ-loop
-start h = h .before .before .before .before
+loop-holds : tie.Need-loop-holds Inv-loop μ-loop
+loop-holds c = walk-start (c .no-units .ensures)
 
-the-entry : (c : tie.After-u64-at2 Inv-loop μ-loop) → let h : Loop = c .before .before .before in
-    let a = start h .args in Entry (a .order) (a .s .now) (h .loop .at) (c .before .u64-at .result) (c .u64-at2 .result)
-the-entry c = record { offset = c .before .u64-at .ensures; size = c .u64-at2 .ensures }
+claim-range-requires : tie.Need-claim-range-requires Inv-loop μ-loop
+claim-range-requires c κs =
+    let q : tie.Start Inv-loop μ-loop = search in
+    let h : Loop = search in
+    let r : tie.After-entry-at Inv-loop μ-loop = search in
+    (h .loop .inv .marked .words, next-on (h .loop .inv) (q .pre .1) (omega arith) (r .entry-at .ensures))
 
 returns : tie.Need-returns Inv-loop μ-loop
-returns c = sym (c .before .in-order .ensures (c .if1 .taken))
-
-returns-2 : tie.Need-returns-2 Inv-loop μ-loop
-returns-2 c =
+returns c =
+    let q : tie.Start Inv-loop μ-loop = search in
     let h : Loop = search in
-    apart-stop (h .loop .inv) (omega arith) (the-entry (search)) (tested (c .before .all-pass .ensures) (not-true _ (c .if2 .taken)))
+    let r : tie.After-entry-at Inv-loop μ-loop = search in
+    let d : tie.After-claim-range Inv-loop μ-loop = search in
+    walk-stop (h .loop .inv) (q .pre .1) (omega arith) (r .entry-at .ensures) (d .claim-range .result) (d .claim-range .last .0) (not-true _ (c .if1 .taken)) (d .claim-range .ensures)
 
 loop-again : tie.Need-loop-again Inv-loop μ-loop
 loop-again c =
+    let q : tie.Start Inv-loop μ-loop = search in
     let h : Loop = search in
-    apart-on (h .loop .inv) (omega arith) (the-entry (search)) (tested (c .before .all-pass .ensures) (not-false _ (c .if2 .left)))
+    let r : tie.After-entry-at Inv-loop μ-loop = search in
+    let d : tie.After-claim-range Inv-loop μ-loop = search in
+    walk-on (h .loop .inv) (q .pre .1) (omega arith) (r .entry-at .ensures) (d .claim-range .result) (not-false _ (c .if1 .left)) (d .claim-range .ensures)
 
-returns-3 : tie.Need-returns-3 Inv-loop μ-loop
-returns-3 c = apart-end (c .before .loop .inv) (omega arith)
+returns-2 : tie.Need-returns-2 Inv-loop μ-loop
+returns-2 c = let h : Loop = search in walk-end (h .loop .inv) (omega arith)
 
 pub all-apart-spec : {M : Type 1} → statement M
 all-apart-spec =
     tie.close
-    (tie.spec Inv-loop μ-loop (λ c κs. search needs) returns (λ c. left-start (omega arith)) (λ c κs. search needs) (λ c. omega arith)
-    (λ c κs. search needs) (λ c. omega arith) (λ c. omega arith) (λ c κs. (refl, omega arith)) returns-2 (λ c. omega arith) loop-again returns-3)
+    (tie.spec Inv-loop μ-loop (λ c κs. search needs) loop-holds (λ c. omega arith) (λ c. search needs) (λ c. omega arith) (λ c. omega arith)
+    (λ c κs. omega arith) claim-range-requires returns (λ c. omega arith) loop-again returns-2)

@@ -1,6 +1,6 @@
 //! The questions about a trace.dat file.
 
-use super::{ask, indices, Alignment, Comparer, Difference, Met};
+use super::{ask, indices, Alignment, Comparer, Difference, Met, Overlaps};
 use crate::c::DatSummary;
 use crate::make::Made;
 
@@ -18,6 +18,9 @@ impl Comparer<'_> {
         }
         if let Some(shown) = Alignment::of_file(file) {
             self.meet(Met::Alignment(shown));
+        }
+        if let Some(shown) = Overlaps::of_file(file) {
+            self.meet(Met::Overlaps(shown));
         }
         Ok(summary)
     }

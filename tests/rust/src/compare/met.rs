@@ -1,6 +1,6 @@
 //! What the comparison of a file meets.
 
-use super::{Alignment, Partial, Registers, Tables, Variables};
+use super::{Alignment, Overlaps, Partial, Registers, Tables, Variables};
 use crate::c::Settings;
 use crate::second::Refusal;
 
@@ -38,6 +38,7 @@ pub enum Met {
         big: bool,
     },
     Alignment(Alignment),
+    Overlaps(Overlaps),
 }
 
 /// What a trace shows of the base in which it is read.
@@ -103,14 +104,15 @@ impl Based {
 
 impl Met {
     /// How many there are.
-    pub const COUNT: usize = Met::ALIGNMENT + Alignment::COUNT;
+    pub const COUNT: usize = Met::OVERLAPS + Overlaps::COUNT;
 
-    /// The first number of those about register blocks, variables, frame tables, frames by their numbers, and alignment.
+    /// The first number of those about register blocks, variables, frame tables, frames by their numbers, alignment and overlaps.
     const REGISTERS: usize = Refusal::LAST as usize + 6 + Based::ALL.len();
     const VARIABLES: usize = Met::REGISTERS + 4 * Registers::ALL.len();
     const TABLES: usize = Met::VARIABLES + 2 * Variables::ALL.len();
     const PARTIAL: usize = Met::TABLES + 2 * Tables::ALL.len();
     const ALIGNMENT: usize = Met::PARTIAL + 2 * Partial::ALL.len();
+    const OVERLAPS: usize = Met::ALIGNMENT + Alignment::COUNT;
 
     /// A number of its own below the count.
     pub fn index(self) -> usize {
@@ -127,6 +129,7 @@ impl Met {
             Met::Tables { shown, big } => Met::TABLES + 2 * shown as usize + usize::from(big),
             Met::Partial { shown, big } => Met::PARTIAL + 2 * shown as usize + usize::from(big),
             Met::Alignment(shown) => Met::ALIGNMENT + shown.index(),
+            Met::Overlaps(shown) => Met::OVERLAPS + shown.index(),
         }
     }
 
@@ -150,7 +153,7 @@ impl Met {
         let refusals = (1..=Refusal::LAST).map(Met::Refusal);
         let marks = [false, true].map(Met::Marked);
         let bases = Based::ALL.map(Met::Based);
-        refusals.chain(marks).chain(Met::joins()).chain(bases).chain(Met::all_of_frames()).chain(Met::all_alignment())
+        refusals.chain(marks).chain(Met::joins()).chain(bases).chain(Met::all_of_frames()).chain(Met::all_ranges())
     }
 
     /// All that is shown of frames, counted apart for each byte order.
@@ -181,9 +184,9 @@ impl Met {
         Tables::ALL.into_iter().flat_map(|shown| [false, true].map(|big| Met::Tables { shown, big }))
     }
 
-    /// All that is shown of alignment: each page size in both byte orders.
-    pub fn all_alignment() -> impl Iterator<Item = Met> {
-        Alignment::all().map(Met::Alignment)
+    /// All that is shown of CPU ranges, counted apart for each byte order: alignment by each page size, and overlaps.
+    pub fn all_ranges() -> impl Iterator<Item = Met> {
+        Alignment::all().map(Met::Alignment).chain(Overlaps::all().map(Met::Overlaps))
     }
 
     /// All that is shown of frames by their numbers, in both byte orders.

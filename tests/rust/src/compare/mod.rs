@@ -6,6 +6,7 @@ mod edit;
 mod gdb;
 mod lent;
 mod met;
+mod overlaps;
 pub mod partial;
 mod registers;
 pub mod tables;
@@ -13,6 +14,7 @@ mod variables;
 
 pub use alignment::Alignment;
 pub use met::{Based, Met};
+pub use overlaps::Overlaps;
 pub use partial::Partial;
 pub use registers::Registers;
 pub use tables::Tables;

@@ -7,7 +7,7 @@ use crate::second::Refusal;
 /// A maker of files at one edge.
 type Edge = fn(&mut Random) -> Made;
 
-pub const EDGES: [Edge; 20] = [
+pub const EDGES: [Edge; 21] = [
     bare,
     wrong_string,
     field_cut,
@@ -25,6 +25,7 @@ pub const EDGES: [Edge; 20] = [
     past_file_end,
     wrapping_range,
     overlap,
+    long_ranges,
     misaligned_and_overlapping,
     empty_ranges,
     many_cpus,
@@ -298,6 +299,38 @@ fn overlap(random: &mut Random) -> Made {
         _ => Range { offset: dat.ranges()[last].offset, size: 1 },
     };
     made("overlap", &dat, (shape > 0).then_some(Refusal::RangesOverlap))
+}
+
+/// Ranges of up to 160 units of 1,024 bytes that touch, in the order of their offsets or in any; and one made longer, or the next one moved
+/// into it. Often left out, for their size.
+fn long_ranges(random: &mut Random) -> Made {
+    if random.one_in(2) {
+        return overlap(random);
+    }
+    let page_size = random.pick(&PAGE_SIZES);
+    let page = u64::from(page_size);
+    let mut dat = Dat::sections(random, page_size);
+    let pages: Vec<_> = (0..3).map(|_| 1 + random.below(160 * 1_024 / page_size as usize) as u64).collect();
+    dat.lay_out(random, &pages);
+    if random.one_in(2) {
+        dat.ranges().sort_by_key(|range| range.offset);
+    }
+    dat.ranges().iter_mut().for_each(|range| range.size = range.size.next_multiple_of(page));
+    dat.length += page_size as usize;
+    let mut held = [0, 1, 2];
+    held.sort_by_key(|&cpu| dat.ranges()[cpu].offset);
+    let one = random.below(2);
+    let (cpu, next) = (held[one], held[one + 1]);
+    let (range, behind) = (dat.ranges()[cpu], dat.ranges()[next]);
+    let within = random.below((range.size / page) as usize) as u64 * page;
+    let shape = random.pick(&[0, 0, 1, 2, 3]);
+    match shape {
+        0 => {}
+        1 => dat.ranges()[cpu].size += 1,
+        2 => dat.ranges()[cpu].size += 1 + random.below(behind.size as usize) as u64,
+        _ => dat.ranges()[next] = Range { offset: range.offset + within, size: 1 },
+    }
+    made("long ranges", &dat, (shape > 0).then_some(Refusal::RangesOverlap))
 }
 
 /// Ranges that overlap, and a later or earlier one that is misaligned, which comes first.
