@@ -1,10 +1,9 @@
 """No instruction of the library divides or takes a remainder; and the test would notice one of any kind that compilers make."""
 import subprocess
-import tempfile
 import unittest
-from pathlib import Path
 
 from division import ARCHIVE, divisions, instructions, told_by
+from made import Made
 
 WHOLE = [f'{sign}{size}_t' for sign in ('int', 'uint') for size in (8, 16, 32, 64)]
 DIVIDE = {
@@ -33,19 +32,9 @@ NOT = {
 }
 
 
-class Division(unittest.TestCase):
-    def setUp(self):
-        held = tempfile.TemporaryDirectory()
-        self.addCleanup(held.cleanup)
-        self.folder = Path(held.name)
-
+class Division(Made):
     def compiled(self, source):
-        """An archive of one C file."""
-        part, archive = self.folder / 'part.o', self.folder / 'libpart.a'
-        archive.unlink(missing_ok=True)
-        subprocess.run(['gcc', '-O2', '-w', '-x', 'c', '-c', '-', '-o', part], input=f'#include <stdint.h>\n{source}\n', text=True, check=True)
-        subprocess.run(['ar', 'rc', archive, part], check=True)
-        return archive
+        return self.archive('c', f'#include <stdint.h>\n{source}')
 
     def test_every_division_is_noticed(self):
         for name, source in DIVIDE.items():

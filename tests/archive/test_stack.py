@@ -1,11 +1,9 @@
 """The deepest stack of each call is at most what docs/PERFORMANCE.md says; and the measure is right where the stack is known."""
 import re
-import subprocess
-import tempfile
 import unittest
-from pathlib import Path
 
 from division import ARCHIVE, ROOT
+from made import Made
 from stack import deepest
 
 STATED = re.compile(r'^\| `(tfk_\w+)` \| ([0-9,]+) \|', re.M)
@@ -31,19 +29,10 @@ UNKNOWN = {
 }
 
 
-class Stack(unittest.TestCase):
-    def setUp(self):
-        held = tempfile.TemporaryDirectory()
-        self.addCleanup(held.cleanup)
-        self.folder = Path(held.name)
-
+class Stack(Made):
     def assembled(self, source):
-        part, archive = self.folder / 'part.o', self.folder / 'libpart.a'
-        archive.unlink(missing_ok=True)
         lines = source.replace('; ', '\n')
-        subprocess.run(['gcc', '-x', 'assembler', '-c', '-', '-o', part], input=f'.section .text.tfk_f\n.globl tfk_f\n{lines}\n', text=True, check=True)
-        subprocess.run(['ar', 'rc', archive, part], check=True)
-        return archive
+        return self.archive('assembler', f'.section .text.tfk_f\n.globl tfk_f\n{lines}')
 
     def test_known_stacks(self):
         for name, (source, bytes_) in KNOWN.items():

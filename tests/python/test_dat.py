@@ -109,6 +109,17 @@ class Cpus(Case):
         self.refused(16, TraceDat, dat(cpu_count=1025, ending=b''))
         self.refused(16, TraceDat, dat(cpu_count=1025, ending=LATENCY))
 
+    def test_all_and_each(self):
+        """1,024 CPUs out of order: the list has what the library answers for each."""
+        start = 2 ** 15
+        cpus = [(start + cpu * 421 % 1024 * 4096, 4096 - cpu) for cpu in range(1024)]
+        for order in ('little', 'big'):
+            with self.subTest(order):
+                file = dat(order=order, cpus=cpus)
+                header = TraceDat(file + bytes(start + 1024 * 4096 - len(file)))
+                self.assertEqual(header.cpus, cpus)
+                self.assertEqual([header.cpu_range(i) for i in range(0, 1024, 101)], cpus[::101])
+
     def test_questions(self):
         header = TraceDat(self.ranges((4096, 4096), (2 ** 64 - 1, 0)))
         self.assertEqual(header.cpus, [CpuRange(4096, 4096), CpuRange(2 ** 64 - 1, 0)])

@@ -1,4 +1,5 @@
 """Headers of trace.dat files of version 6."""
+import struct
 from typing import NamedTuple
 
 from ._buffer import Holder
@@ -6,6 +7,7 @@ from ._library import ORDERS, Part, Summary, ask, index
 
 MAGIC = b'\x17\x08\x44'
 ENDINGS = ('latency', 'flyrecord')
+ENTRIES = {'little': '<QQ', 'big': '>QQ'}
 SECTIONS = tuple(name for name, kind in Summary._fields_ if kind is Part)
 
 
@@ -67,5 +69,6 @@ class TraceDat(Holder):
 
     @property
     def cpus(self):
-        """Every CPU's range; of a latency file there is none."""
-        return [] if self.ending == 'latency' else [self.cpu_range(i) for i in range(self.cpu_count)]
+        """Every CPU's range, taken from the entries; of a latency file there is none."""
+        entries = b'' if self.ending == 'latency' else self.body
+        return [CpuRange(*entry) for entry in struct.iter_unpack(ENTRIES[self.order], entries)]

@@ -1,5 +1,6 @@
 //! trace.dat files of version 6.
 use crate::{raw, Order, Refusal};
+use std::iter;
 
 /// How a header ends.
 #[derive(Clone, Copy, Debug, PartialEq, Eq, Hash)]
@@ -141,10 +142,16 @@ impl<'a> TraceDat<'a> {
         Ok(CpuRange { offset: range.offset, size: range.size })
     }
 
-    /// The ranges of all CPUs, in order; none for a latency file.
+    /// The ranges of all CPUs, in order; none for a latency file. They are taken from the entries: to ask for each would read the header for
+    /// each.
     pub fn cpu_ranges(&self) -> impl Iterator<Item = CpuRange> + 'a {
-        let dat = *self;
-        (0..).map_while(move |i| dat.cpu_range(i).ok())
+        let order = self.order();
+        let entries = match self.ending() {
+            Ending::Latency => &[],
+            Ending::Flyrecord => self.body().bytes,
+        };
+        let mut numbers = entries.chunks_exact(8).map(move |bytes| number(order, bytes));
+        iter::from_fn(move || Some(CpuRange { offset: numbers.next()?, size: numbers.next()? }))
     }
 
     /// CPU i's data, as that part of the caller's file.
@@ -155,5 +162,14 @@ impl<'a> TraceDat<'a> {
         }
         let (offset, size) = (range.offset as usize, range.size as usize);
         Ok(&self.file[offset..offset + size])
+    }
+}
+
+/// The number that these bytes hold.
+fn number(order: Order, bytes: &[u8]) -> u64 {
+    let add = |high, &low: &u8| high << 8 | u64::from(low);
+    match order {
+        Order::Little => bytes.iter().rev().fold(0, add),
+        Order::Big => bytes.iter().fold(0, add),
     }
 }

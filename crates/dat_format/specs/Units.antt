@@ -59,5 +59,6 @@ share-unit r q f g = (
 pub units-are : (r : Range) → 0 < r .size → (u : ℕ) → InUnit u r ↔ ((r .offset / unit ≤ u) × (u < (r .offset + r .size + 1023) / unit))
 units-are r some u = (
   (λ i. (omega (arith, i .1, i .2), omega (arith, i .1, i .2))),
-  (λ h. by-cases (decLe (r .offset) (u * unit)) (λ l. (u * unit, (l, omega arith), omega arith)) (λ l. (r .offset, (omega arith, omega arith), omega (arith, lt-of-not-le l)))),
+  (λ h. by-cases (decLe (r .offset) (u * unit)) (λ l. (u * unit, (l, omega arith), omega arith))
+      (λ l. (r .offset, (omega arith, omega arith), omega (arith, lt-of-not-le l)))),
 )

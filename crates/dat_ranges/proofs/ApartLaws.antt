@@ -2,8 +2,7 @@
 -- Assumes nothing.
 use mathlib.Core.Path.{_≡_, refl, sym, ap, _∙_}
 use mathlib.Core.Bool.{Bool, true, false}
-use Prim.Native.Nat.{ℕ, zero, suc, _+_, _-_, _*_, _/_, _%_, _^_, _<_, _≤_}
-use native.Mathlib.Nat.{zero-div}
+use Prim.Native.Nat.{ℕ, zero, suc, _+_, _-_, _*_, _/_, _%_, _<_, _≤_}
 use native.Mathlib.Omega.{arith}
 use mathlib.Core.List.{List, [], _∷_}
 use lib.ListN.{length, getD, replicate, length-replicate}
@@ -16,7 +15,8 @@ use Rattle.dat_format.specs.Tests.{apart, all, allApart}
 use Rattle.dat_format.specs.Units.{InUnit, OnUnits, share-unit}
 use Rattle.dat_format.specs.RangeLaws.{apart-from}
 use Rattle.dat_format.specs.Entries.{entryAt, entries}
-use Rattle.dat_ranges.specs.Map.{mark, Claimed, Claims}
+use Rattle.dat_ranges.specs.Map.{bit, mark, Claimed, Claims}
+use Rattle.dat_ranges.proofs.BitLaws.{zero-bit}
 use Rattle.dat_ranges.proofs.EntryLaws.{behind}
 
 no-true : (t : Bool) → (t ≡ true → ⊥) → t ≡ false
@@ -38,7 +38,7 @@ none-marked : {m : List ℕ} → m ≡ replicate 1024 0 → Marked m []
 none-marked e = record {
   words = ap length e ∙ length-replicate {A = ℕ} 1024 0;
   inside = λ u. tt;
-  outside = λ u h. ap (λ m. mark m u) e ∙ ap (λ w. w / 2 ^ (u % 64) % 2) (zeros 1024 (u / 64)) ∙ ap (λ x. x % 2) (zero-div (2 ^ (u % 64)));
+  outside = λ u h. ap (λ m. mark m u) e ∙ ap (bit (u % 64)) (zeros 1024 (u / 64)) ∙ zero-bit (u % 64);
 }
 
 module _ {r : Range} (on : OnUnits r) where

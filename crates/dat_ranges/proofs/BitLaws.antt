@@ -2,7 +2,7 @@
 -- Assumes nothing.
 use mathlib.Core.Path.{_≡_, refl, sym, ap, _∙_}
 use Prim.Native.Nat.{ℕ, zero, suc, _+_, _-_, _*_, _/_, _%_, _^_, _<_, _≤_}
-use native.Mathlib.Nat.{mod-lt, div-eq-of-lt, mul-assoc}
+use native.Mathlib.Nat.{mod-lt, zero-div, div-eq-of-lt, mul-assoc}
 use native.Mathlib.Omega.{arith}
 use lib.Bits.{bitAnd, bitOr, and-shr, and-mod, or-shr, or-mod, shifted-even}
 use lib.Pow.{pow-mono, pow-add, shr-shr, shr-lt, shl-shr, ones-split, ones-lt, high, low, field, mod-mod-pow}
@@ -13,6 +13,9 @@ or-bit i a b = ap (λ x. x % 2) (or-shr a b i) ∙ or-mod (a / 2 ^ i) (b / 2 ^ i
 
 pub and-bit : (i a b : ℕ) → bit i (bitAnd a b) ≡ bitAnd (bit i a) (bit i b)
 and-bit i a b = ap (λ x. x % 2) (and-shr a b i) ∙ and-mod (a / 2 ^ i) (b / 2 ^ i) 1
+
+pub zero-bit : (i : ℕ) → bit i 0 ≡ 0
+zero-bit i = ap (λ x. x % 2) (zero-div (2 ^ i))
 
 -- ---- a bit beside one that is 1
 
@@ -66,9 +69,9 @@ module _ (i k : ℕ) (h : i < k) where
   shifted-out : (w : ℕ) → bit i (w * 2 ^ k) ≡ 0
   shifted-out w =
       let s : k ≡ suc between + i = omega arith in
-      ap (λ k. bit i (w * 2 ^ k)) s
-      ∙ ap (λ x. x % 2) (ap (λ x. x / 2 ^ i) (ap (λ p. w * p) (pow-add 2 (suc between) i) ∙ sym (mul-assoc w (2 ^ suc between) (2 ^ i))) ∙ shl-shr (w * 2 ^ suc between) i)
-      ∙ shifted-even w between
+      let p : w * 2 ^ (suc between + i) ≡ w * 2 ^ suc between * 2 ^ i =
+      ap (λ p. w * p) (pow-add 2 (suc between) i) ∙ sym (mul-assoc w (2 ^ suc between) (2 ^ i)) in
+      ap (λ k. bit i (w * 2 ^ k)) s ∙ ap (bit i) p ∙ ap (λ x. x % 2) (shl-shr (w * 2 ^ suc between) i) ∙ shifted-even w between
 
 shifted-in : (i k w : ℕ) → k ≤ i → bit i (w * 2 ^ k) ≡ bit (i - k) w
 shifted-in i k w h =

@@ -4,7 +4,7 @@ use mathlib.Core.Path.{_≡_, refl, sym, ap, ap₂, _∙_}
 use mathlib.Core.Bool.{Bool, true, false}
 use mathlib.Core.Logic.{_↔_, by-cases}
 use Prim.Native.Nat.{ℕ, _+_, _-_, _*_, _/_, _%_, _^_, _<_, _≤_}
-use native.Mathlib.Nat.{le-refl, lt-of-not-le, lt-of-le-of-lt, zero-div}
+use native.Mathlib.Nat.{le-refl, lt-of-not-le, lt-of-le-of-lt}
 use native.Mathlib.Decide.{decLe}
 use native.Mathlib.Omega.{arith}
 use mathlib.Core.List.{List}
@@ -14,7 +14,7 @@ use lib.Bits.{bitAnd, bitOr, and-zero-r, or-zero-r, and-le-l, and-le-r}
 use lib.Dec.{eqb}
 use borrow.Author.Tests.{eqb-true, eqb-false}
 use Rattle.dat_ranges.specs.Map.{bit, mark, Bits, Claimed, Claims, From}
-use Rattle.dat_ranges.proofs.BitLaws.{or-bit, and-bit, or-one, and-one, none-set}
+use Rattle.dat_ranges.proofs.BitLaws.{or-bit, and-bit, zero-bit, or-one, and-one, none-set}
 
 -- where no unit is to be claimed, nothing changes
 pub claim-none : (P : ℕ → Type 0) (m : List ℕ) → ((u : ℕ) → P u → ⊥) → Claimed P m m
@@ -61,7 +61,7 @@ module _ (n : List ℕ) (w : ℕ) (bits : ℕ) where
     was-free : bitAnd word bits ≡ 0 → bit (u % 64) bits ≡ 1 → mark n u ≡ 0
     was-free z b =
         own ∙ sym (and-one (u % 64) word) ∙ ap (bitAnd (bit (u % 64) word)) (sym b) ∙ sym (and-bit (u % 64) word bits)
-        ∙ ap (bit (u % 64)) z ∙ ap (λ x. x % 2) (zero-div (2 ^ (u % 64)))
+        ∙ ap (bit (u % 64)) z ∙ zero-bit (u % 64)
 
 -- ---- the units from a on, up to word w, are claimed, and the next ones, up to e, are in that word
 
@@ -85,7 +85,8 @@ module _ (w : ℕ) {a e bits : ℕ} {m n : List ℕ} (done : Claimed (From a (64
       unclaimed : (u : ℕ) → (u / 64 ≡ w → bit (u % 64) bits ≡ 0) → mark (after n w bits) u ≡ mark n u
       unclaimed u f =
           by-cases (decLe (u / 64) w)
-          (λ p. by-cases (decLe w (u / 64)) (λ q. let g : u / 64 ≡ w = omega arith in left n w bits u g l (f g)) (λ q. other n w bits u (λ g. omega (arith, lt-of-not-le q))))
+          (λ p. by-cases (decLe w (u / 64)) (λ q. let g : u / 64 ≡ w = omega arith in left n w bits u g l (f g))
+          (λ q. other n w bits u (λ g. omega (arith, lt-of-not-le q))))
           (λ p. other n w bits u (λ g. omega (arith, lt-of-not-le p)))
 
   -- where one of them is taken, not all up to a later one were free
@@ -133,7 +134,8 @@ claiming-start first {bits} {m} l f b = record {
 }
 
 module _ {first word bits : ℕ} {m n : List ℕ} (c : Claiming first word bits m n) (k : word < 1024) where
-  pub claiming-on : {next : ℕ} {after : List ℕ} → next < 2 ^ 64 → Bits 0 0 64 next → bitAnd (getD n word 0) bits ≡ 0 → after ≡ set n word (bitOr (getD n word 0) bits)
+  pub claiming-on : {next : ℕ} {after : List ℕ} → next < 2 ^ 64 → Bits 0 0 64 next → bitAnd (getD n word 0) bits ≡ 0
+      → after ≡ set n word (bitOr (getD n word 0) bits)
       → Claiming first (word + 1) next m after
   claiming-on {next} f b z s =
       let e : 64 * word + 64 ≡ 64 * (word + 1) = omega arith in
@@ -156,7 +158,8 @@ module _ {first word bits : ℕ} {m n : List ℕ} (c : Claiming first word bits 
   claiming-stop up = claim-taken word (c .done) (c .here) up (c .fits)
 
 -- the last word, of which the units before `last` are claimed
-module _ (last : ℕ) (some : 0 < last) {first bits top : ℕ} {m n : List ℕ} (c : Claiming first ((last - 1) / 64) bits m n) (b : Bits 0 0 ((last - 1) % 64 + 1) top) where
+module _ (last : ℕ) (some : 0 < last) {first bits top : ℕ} {m n : List ℕ}
+    (c : Claiming first ((last - 1) / 64) bits m n) (b : Bits 0 0 ((last - 1) % 64 + 1) top) where
   abbrev stop : ℕ
   stop = (last - 1) / 64
 

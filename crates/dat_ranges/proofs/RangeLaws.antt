@@ -1,6 +1,6 @@
 -- The tests of CPU ranges, case by case.
 -- Assumes nothing.
-use mathlib.Core.Path.{_≡_, refl, sym, ap, _∙_}
+use mathlib.Core.Path.{_≡_, sym, ap, _∙_}
 use mathlib.Core.Bool.{Bool, true, false}
 use Prim.Native.Nat.{ℕ, _+_, _%_, _^_, _<_, _≤_}
 use native.Mathlib.Nat.{lt-of-not-le}
@@ -67,7 +67,8 @@ module _ (t : Test) (e : possible t ≡ true) where
   -- ranges that pass lie on units
   pub pass-units : (rs : List Range) → all (testMeaning t) rs ≡ true → Each OnUnits rs
   pass-units rs p =
-      each-map (on-units (t .page) (t .end) (t .total) possible-page (leb-true (t .total) limit (both .0))) rs ((all-in-file (t .page) (t .end) (t .total) rs) .0 p)
+      let short = leb-true (t .total) limit (both .0) in
+      each-map (on-units (t .page) (t .end) (t .total) possible-page short) rs ((all-in-file (t .page) (t .end) (t .total) rs) .0 p)
 
 -- ---- the judgement
 

@@ -131,6 +131,19 @@ fn sections_are_parts_of_the_file() {
     }
 }
 
+/// 1,024 CPUs out of order, all numbers of different bytes: the list has what the library answers for each.
+#[test]
+fn all_ranges_are_those_of_each_cpu() {
+    let area = |cpu: u64| (1 << 15) + cpu * 421 % 1024 * 4096;
+    let cpus: Vec<_> = (0..1024).map(|cpu| (area(cpu), 4096 - cpu)).collect();
+    for order in ORDERS {
+        let file = with_cpus(&cpus).file(order, (1 << 15) + 1024 * 4096);
+        let dat = TraceDat::open(&file).unwrap();
+        assert!(dat.cpu_ranges().map(|range| (range.offset, range.size)).eq(cpus.iter().copied()));
+        assert!((0..1024).step_by(101).all(|cpu| dat.cpu_range(cpu).ok() == dat.cpu_ranges().nth(cpu)));
+    }
+}
+
 #[test]
 fn cpu_ranges_are_answered_as_stored() {
     let cpus = [(8192, 100), (u64::MAX, 0), (4096, 4096)];

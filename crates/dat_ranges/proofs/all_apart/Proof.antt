@@ -32,7 +32,8 @@ returns c =
     let h : Loop = search in
     let r : tie.After-entry-at Inv-loop μ-loop = search in
     let d : tie.After-claim-range Inv-loop μ-loop = search in
-    walk-stop (h .loop .inv) (q .pre .1) (omega arith) (r .entry-at .ensures) (d .claim-range .result) (d .claim-range .last .0) (not-true _ (c .if1 .taken)) (d .claim-range .ensures)
+    walk-stop (h .loop .inv) (q .pre .1) (omega arith) (r .entry-at .ensures) (d .claim-range .result) (d .claim-range .last .0)
+    (not-true _ (c .if1 .taken)) (d .claim-range .ensures)
 
 loop-again : tie.Need-loop-again Inv-loop μ-loop
 loop-again c =
@@ -40,7 +41,8 @@ loop-again c =
     let h : Loop = search in
     let r : tie.After-entry-at Inv-loop μ-loop = search in
     let d : tie.After-claim-range Inv-loop μ-loop = search in
-    walk-on (h .loop .inv) (q .pre .1) (omega arith) (r .entry-at .ensures) (d .claim-range .result) (not-false _ (c .if1 .left)) (d .claim-range .ensures)
+    walk-on (h .loop .inv) (q .pre .1) (omega arith) (r .entry-at .ensures) (d .claim-range .result)
+    (not-false _ (c .if1 .left)) (d .claim-range .ensures)
 
 returns-2 : tie.Need-returns-2 Inv-loop μ-loop
 returns-2 c = let h : Loop = search in walk-end (h .loop .inv) (omega arith)

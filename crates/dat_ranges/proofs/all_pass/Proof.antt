@@ -4,7 +4,6 @@ use borrow.Author.Tests.{not-true, not-false}
 use Rattle.dat_format.specs.Tests.{inFile, tested}
 use Rattle.dat_ranges.proofs.EntryLaws.{Left, left-start, all-stop, all-on, all-end}
 use Rattle.dat_ranges.proofs.RangeLaws.{possible-page}
-use borrow.Author.Needs.{needs}
 use native.Mathlib.Omega.{arith}
 use Rattle.dat_ranges.proofs.all_pass.Statement.{statement}
 use Rattle.dat_ranges.proofs.all_pass.Tie as tie

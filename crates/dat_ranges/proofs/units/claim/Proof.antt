@@ -40,7 +40,8 @@ returns-2 c =
     let q : tie.Start Inv-loop μ-loop = search in
     let h : Loop = search in
     let e : h .loop .word ≡ (q .args .last - 1) / 64 = omega arith in
-    claiming-last (q .args .last) (omega arith) (rw e at (h .loop .inv .1)) (c .before .bits-to .ensures) (omega arith) _ (c .claim-bits2 .ensures .0) (c .claim-bits2 .ensures .1)
+    claiming-last (q .args .last) (omega arith) (rw e at (h .loop .inv .1)) (c .before .bits-to .ensures) (omega arith) _
+    (c .claim-bits2 .ensures .0) (c .claim-bits2 .ensures .1)
 
 pub claim-spec : {M : Type 1} → statement M
 claim-spec =
