@@ -156,6 +156,7 @@ def wrong_ranges():
             ('one inside another', ((1024, 3072), (2048, 1)), OVERLAP),
             ('first and last overlap', ((1024, 1025), (3072, 1024), (2048, 1024)), OVERLAP),
             ('apart but for the first and the fourth', ((1024, 1025), (7, 0), (3072, 1), (2048, 1)), OVERLAP),
+            ('the second and the third of four overlap', ((1024, 1), (2048, 1025), (3072, 1), (7, 0)), OVERLAP),
             ('overlapping, then misaligned', ((1024, 2048), (2048, 1024), (1025, 1)), RANGE),
             ('overlapping, then past the file', ((1024, 2048), (2048, 1024), (3072, 1025)), RANGE),
         ):
@@ -165,6 +166,18 @@ def wrong_ranges():
         yield 'range one byte before the header end', h.bytes + bytes(2048 - len(h.bytes)), RANGE
         h = flyrecord(((1025, 1), (7, 0)), order, long, 1024)
         yield 'an entry cut short before a misaligned range', h.bytes[:-1], PAST
+
+
+def one_pair():
+    """Six ranges out of order, of which one is made a byte longer, so that it overlaps one other; each two of them in turn."""
+    pages = (3, 1, 6, 2, 5, 4)
+    for order in ('little', 'big'):
+        for cpu, page in enumerate(pages):
+            ranges = [[1024 * k, 1024] for k in pages]
+            yield padded('six ranges that touch', flyrecord(ranges, order, 8, 1024), 8192)
+            ranges[cpu][1] += 1
+            h = flyrecord(ranges, order, 8, 1024)
+            yield f'page {page} a byte longer', h.bytes + bytes(8192 - len(h.bytes)), OVERLAP if page < 6 else h.listing()
 
 
 def borders():
@@ -200,4 +213,4 @@ def alignments():
                 yield f'{size} from {offset} with pages of {page}', h.bytes + bytes(2 * page - len(h.bytes)), RANGE
 
 
-GROUPS = (smallest, strings, flags, sections, cpu_counts, options, endings, sound_ranges, wrong_ranges, borders, alignments)
+GROUPS = (smallest, strings, flags, sections, cpu_counts, options, endings, sound_ranges, wrong_ranges, one_pair, borders, alignments)

@@ -2,10 +2,9 @@
 -- of such ranges two share a byte exactly where they share a unit.
 -- Assumes nothing.
 use mathlib.Core.Path.{_≡_, refl, sym, ap, _∙_}
-use mathlib.Core.Logic.{_↔_, by-cases}
+use mathlib.Core.Logic.{_↔_}
 use Prim.Native.Nat.{ℕ, _+_, _-_, _*_, _/_, _^_, _<_, _≤_}
-use native.Mathlib.Nat.{lt-of-not-le, mul-assoc}
-use native.Mathlib.Decide.{decLe}
+use native.Mathlib.Nat.{mul-assoc}
 use native.Mathlib.Omega.{arith}
 use lib.Pow.{pow-add}
 use Rattle.refusals.specs.Refusal.{limit}
@@ -24,7 +23,7 @@ InUnit u r = (x : ℕ) × Inside x r × (x / unit ≡ u)
 abbrev pub NoUnitOfBoth : Range → Range → Type 0
 NoUnitOfBoth r q = (u : ℕ) → InUnit u r → InUnit u q → ⊥
 
--- a range of size 0 lies in no unit; the others start where a unit starts, and end within the limit
+-- of a range of size 0 nothing is asked; the others start where a unit starts, and end within the limit
 abbrev pub OnUnits : Range → Type 0
 OnUnits r = 0 < r .size → Multiple unit (r .offset) × (r .offset + r .size ≤ limit)
 
@@ -53,12 +52,4 @@ pub share-unit : (r q : Range) → OnUnits r → OnUnits q → NoneInBoth r q �
 share-unit r q f g = (
   (λ none u i j. none (u * unit) (first-byte r f u i) (first-byte q g u j)),
   (λ none x i j. none (x / unit) (x, i, refl) (x, j, refl)),
-)
-
--- the units of a range that holds something: from that of its first byte on, up to its end
-pub units-are : (r : Range) → 0 < r .size → (u : ℕ) → InUnit u r ↔ ((r .offset / unit ≤ u) × (u < (r .offset + r .size + 1023) / unit))
-units-are r some u = (
-  (λ i. (omega (arith, i .1, i .2), omega (arith, i .1, i .2))),
-  (λ h. by-cases (decLe (r .offset) (u * unit)) (λ l. (u * unit, (l, omega arith), omega arith))
-      (λ l. (r .offset, (omega arith, omega arith), omega (arith, lt-of-not-le l)))),
 )

@@ -48,7 +48,10 @@ none-set (suc k) w h z =
 
 -- ---- words of ones
 
--- a bit below the k-th has j more between
+abbrev ones : ℕ
+ones = 18446744073709551615
+
+-- bit i is below bit k, with so many between them
 module _ (i k : ℕ) (h : i < k) where
   abbrev between : ℕ
   between = k - i - 1
@@ -78,27 +81,24 @@ shifted-in i k w h =
     let e : i ≡ k + (i - k) = omega arith in
     ap (λ x. x % 2) (ap (λ i. w * 2 ^ k / 2 ^ i) e ∙ sym (shr-shr (w * 2 ^ k) k (i - k)) ∙ ap (λ x. x / 2 ^ (i - k)) (shl-shr w k))
 
-pub bits-from : (low : ℕ) → low < 64 → Bits 0 low 64 (18446744073709551615 * 2 ^ low % 2 ^ 64)
+pub bits-from : (low : ℕ) → low < 64 → Bits 0 low 64 (ones * 2 ^ low % 2 ^ 64)
 bits-from low h = record {
   inside = λ i l a b. kept i 64 l (ones * 2 ^ low) ∙ shifted-in i low ones (omega arith) ∙ ones-bit (i - low) 64 (omega arith);
   before = λ i l a. kept i 64 l (ones * 2 ^ low) ∙ shifted-out i low (omega arith) ones;
   behind = λ i l a. absurd (omega arith);
 }
-  where
-    ones : ℕ
-    ones = 18446744073709551615
 
-pub bits-to : (top : ℕ) → top < 64 → Bits 0 0 (top + 1) (18446744073709551615 / 2 ^ (63 - top))
+pub bits-to : (top : ℕ) → top < 64 → Bits 0 0 (top + 1) (ones / 2 ^ (63 - top))
 bits-to top h = record {
   inside = λ i l a b. moved i ∙ ones-bit (63 - top + i) 64 (omega arith);
   before = λ i l a. absurd (omega arith);
   behind = λ i l a. moved i ∙ ap (λ x. x % 2) (div-eq-of-lt (past i a));
 }
   where
-    moved : (i : ℕ) → bit i (18446744073709551615 / 2 ^ (63 - top)) ≡ bit (63 - top + i) 18446744073709551615
-    moved i = ap (λ x. x % 2) (shr-shr 18446744073709551615 (63 - top) i)
+    moved : (i : ℕ) → bit i (ones / 2 ^ (63 - top)) ≡ bit (63 - top + i) ones
+    moved i = ap (λ x. x % 2) (shr-shr ones (63 - top) i)
 
-    past : (i : ℕ) → top + 1 ≤ 0 + i → 18446744073709551615 < 2 ^ (63 - top + i)
+    past : (i : ℕ) → top + 1 ≤ 0 + i → ones < 2 ^ (63 - top + i)
     past i a =
         let l : 64 ≤ 63 - top + i = omega arith in
         let p : 2 ^ 64 ≤ 2 ^ (63 - top + i) = pow-mono l in

@@ -56,13 +56,13 @@ module _ {f : Range → Bool} {o : Order} {s : List ℕ} {n from left at : ℕ} 
     all-on t = record { place = omega (arith, w .place); same = sym (ap (all f) (first-of o s at left l e) ∙ rw t) ∙ w .same }
 
 -- what holds of the entries behind the first where it holds of all, holds of those behind any
-pub behind : (o : Order) (s : List ℕ) (F : List Range → Type 0) → ((r : Range) (rs : List Range) → F (r ∷ rs) → F rs)
+pub of-later : (o : Order) (s : List ℕ) (F : List Range → Type 0) → ((r : Range) (rs : List Range) → F (r ∷ rs) → F rs)
     → (j k at : ℕ) → F (entries o s (j + k) at) → F (entries o s k (at + 16 * j))
-behind o s F on zero k at h = let e : at ≡ at + 16 * 0 = omega arith in let d : 0 + k ≡ k = omega arith in rw (← e) (rw d at h)
-behind o s F on (suc j) k at h =
+of-later o s F on zero k at h = let e : at ≡ at + 16 * 0 = omega arith in let d : 0 + k ≡ k = omega arith in rw (← e) (rw d at h)
+of-later o s F on (suc j) k at h =
     let e : at + 16 + 16 * j ≡ at + 16 * suc j = omega arith in
     let d : suc j + k ≡ suc (j + k) = omega arith in
-    rw (← e) (behind o s F on j k (at + 16) (on (entryAt o s at) (entries o s (j + k) (at + 16)) (rw d at h)))
+    rw (← e) (of-later o s F on j k (at + 16) (on (entryAt o s at) (entries o s (j + k) (at + 16)) (rw d at h)))
 
 -- ---- the judgement on entries that are there, or not
 

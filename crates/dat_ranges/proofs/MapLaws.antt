@@ -12,6 +12,8 @@ use lib.ListN.{length, getD, set, length-set}
 use lib.Seq.{getD-set-same, getD-set-other}
 use lib.Bits.{bitAnd, bitOr, and-zero-r, or-zero-r, and-le-l, and-le-r}
 use lib.Dec.{eqb}
+use Rattle.dat_format.specs.Header.{Range}
+use Rattle.dat_format.specs.Units.{InUnit}
 use borrow.Author.Tests.{eqb-true, eqb-false}
 use Rattle.dat_ranges.specs.Map.{bit, mark, Bits, Claimed, Claims, From}
 use Rattle.dat_ranges.proofs.BitLaws.{or-bit, and-bit, zero-bit, or-one, and-one, none-set}
@@ -19,6 +21,14 @@ use Rattle.dat_ranges.proofs.BitLaws.{or-bit, and-bit, zero-bit, or-one
 -- where no unit is to be claimed, nothing changes
 pub claim-none : (P : ℕ → Type 0) (m : List ℕ) → ((u : ℕ) → P u → ⊥) → Claimed P m m
 claim-none P m none = record { words = refl; free = λ u p. absurd (none u p); inside = λ u p. absurd (none u p); outside = λ u o. refl }
+
+-- the units of a range that holds something: from that of its first byte to that of its last
+pub range-units : (r : Range) → 0 < r .size → (u : ℕ) → InUnit u r ↔ From (r .offset / 1024) ((r .offset + r .size - 1) / 1024 + 1) u
+range-units r some u = (
+  (λ i. (omega (arith, i .1, i .2), omega (arith, i .1, i .2))),
+  (λ h. by-cases (decLe (r .offset) (u * 1024)) (λ l. (u * 1024, (l, omega arith), omega arith))
+      (λ l. (r .offset, (omega arith, omega arith), omega (arith, lt-of-not-le l)))),
+)
 
 -- the same units, told in another way
 pub claims-same : {P Q : ℕ → Type 0} → ((u : ℕ) → Q u ↔ P u) → (r : Bool) (m after : List ℕ) → Claims r P m after → Claims r Q m after
@@ -33,34 +43,34 @@ claims-same is false m after c = λ free. c (λ u p. free u ((is u) .1 p))
 -- ---- a word's marks, after some of its units were claimed
 
 module _ (n : List ℕ) (w : ℕ) (bits : ℕ) where
-  abbrev word : ℕ
-  word = getD n w 0
+  abbrev held : ℕ
+  held = getD n w 0
 
   abbrev after : List ℕ
-  after = set n w (bitOr word bits)
+  after = set n w (bitOr held bits)
 
   other : (u : ℕ) → (u / 64 ≡ w → ⊥) → mark after u ≡ mark n u
-  other u h = ap (bit (u % 64)) (getD-set-other n w (u / 64) (bitOr word bits) 0 h)
+  other u h = ap (bit (u % 64)) (getD-set-other n w (u / 64) (bitOr held bits) 0 h)
 
   -- unit u is in the word
   module _ (u : ℕ) (e : u / 64 ≡ w) where
-    own : mark n u ≡ bit (u % 64) word
+    own : mark n u ≡ bit (u % 64) held
     own = ap (λ w. bit (u % 64) (getD n w 0)) e
 
     joined : w < length n → mark after u ≡ bitOr (mark n u) (bit (u % 64) bits)
     joined l =
-        ap (λ v. bit (u % 64) (getD after v 0)) e ∙ ap (bit (u % 64)) (getD-set-same n w (bitOr word bits) 0 l)
-        ∙ or-bit (u % 64) word bits ∙ ap (λ x. bitOr x (bit (u % 64) bits)) (sym own)
+        ap (λ v. bit (u % 64) (getD after v 0)) e ∙ ap (bit (u % 64)) (getD-set-same n w (bitOr held bits) 0 l)
+        ∙ or-bit (u % 64) held bits ∙ ap (λ x. bitOr x (bit (u % 64) bits)) (sym own)
 
     marked : w < length n → bit (u % 64) bits ≡ 1 → mark after u ≡ 1
     marked l b = joined l ∙ ap (bitOr (mark n u)) b ∙ or-one (u % 64) (getD n (u / 64) 0)
 
-    left : w < length n → bit (u % 64) bits ≡ 0 → mark after u ≡ mark n u
-    left l b = joined l ∙ ap (bitOr (mark n u)) b ∙ or-zero-r (mark n u)
+    unchanged : w < length n → bit (u % 64) bits ≡ 0 → mark after u ≡ mark n u
+    unchanged l b = joined l ∙ ap (bitOr (mark n u)) b ∙ or-zero-r (mark n u)
 
-    was-free : bitAnd word bits ≡ 0 → bit (u % 64) bits ≡ 1 → mark n u ≡ 0
+    was-free : bitAnd held bits ≡ 0 → bit (u % 64) bits ≡ 1 → mark n u ≡ 0
     was-free z b =
-        own ∙ sym (and-one (u % 64) word) ∙ ap (bitAnd (bit (u % 64) word)) (sym b) ∙ sym (and-bit (u % 64) word bits)
+        own ∙ sym (and-one (u % 64) held) ∙ ap (bitAnd (bit (u % 64) held)) (sym b) ∙ sym (and-bit (u % 64) held bits)
         ∙ ap (bit (u % 64)) z ∙ zero-bit (u % 64)
 
 -- ---- the units from a on, up to word w, are claimed, and the next ones, up to e, are in that word
@@ -85,7 +95,7 @@ module _ (w : ℕ) {a e bits : ℕ} {m n : List ℕ} (done : Claimed (From a (64
       unclaimed : (u : ℕ) → (u / 64 ≡ w → bit (u % 64) bits ≡ 0) → mark (after n w bits) u ≡ mark n u
       unclaimed u f =
           by-cases (decLe (u / 64) w)
-          (λ p. by-cases (decLe w (u / 64)) (λ q. let g : u / 64 ≡ w = omega arith in left n w bits u g l (f g))
+          (λ p. by-cases (decLe w (u / 64)) (λ q. let g : u / 64 ≡ w = omega arith in unchanged n w bits u g l (f g))
           (λ q. other n w bits u (λ g. omega (arith, lt-of-not-le q))))
           (λ p. other n w bits u (λ g. omega (arith, lt-of-not-le p)))
 
@@ -157,22 +167,21 @@ module _ {first word bits : ℕ} {m n : List ℕ} (c : Claiming first word bits 
       → ((u : ℕ) → From first last u → mark m u ≡ 0) → ⊥
   claiming-stop up = claim-taken word (c .done) (c .here) up (c .fits)
 
--- the last word, of which the units before `last` are claimed
-module _ (last : ℕ) (some : 0 < last) {first bits top : ℕ} {m n : List ℕ}
-    (c : Claiming first ((last - 1) / 64) bits m n) (b : Bits 0 0 ((last - 1) % 64 + 1) top) where
+-- the last word, of which the units up to `last` are claimed, itself among them
+module _ (last : ℕ) {first bits top : ℕ} {m n : List ℕ} (c : Claiming first (last / 64) bits m n) (b : Bits 0 0 (last % 64 + 1) top) where
   abbrev stop : ℕ
-  stop = (last - 1) / 64
+  stop = last / 64
 
-  both : Bits (64 * stop) first last (bitAnd bits top)
+  both : Bits (64 * stop) first (last + 1) (bitAnd bits top)
   both = record {
     inside = λ i k p q. and-bit i bits top ∙ ap₂ bitAnd (c .here .inside i k p (omega arith)) (b .inside i k (omega arith) (omega arith));
     before = λ i k p. and-bit i bits top ∙ ap (λ x. bitAnd x (bit i top)) (c .here .before i k p);
     behind = λ i k p. and-bit i bits top ∙ ap (bitAnd (bit i bits)) (b .behind i k (omega arith)) ∙ and-zero-r (bit i bits);
   }
 
-  pub claiming-last : last ≤ 65536 → (r : Bool) {after : List ℕ} → r ≡ eqb (bitAnd (getD n stop 0) (bitAnd bits top)) 0
-      → after ≡ set n stop (bitOr (getD n stop 0) (bitAnd bits top)) → Claims r (From first last) m after
+  pub claiming-last : last < 65536 → (r : Bool) {after : List ℕ} → r ≡ eqb (bitAnd (getD n stop 0) (bitAnd bits top)) 0
+      → after ≡ set n stop (bitOr (getD n stop 0) (bitAnd bits top)) → Claims r (From first (last + 1)) m after
   claiming-last h true e s =
       rw s (claim-word stop (c .done) both (omega arith) (omega arith) (omega (arith, c .room, c .done .words)) (eqb-true _ 0 (sym e)))
   claiming-last h false e s =
-      claim-taken stop (c .done) both (le-refl last) (lt-of-le-of-lt (and-le-l bits top) (c .fits)) (eqb-false _ 0 (sym e))
+      claim-taken stop (c .done) both (le-refl (last + 1)) (lt-of-le-of-lt (and-le-l bits top) (c .fits)) (eqb-false _ 0 (sym e))

@@ -1,4 +1,4 @@
--- The tests of the CPU ranges, over what the code tells apart.
+-- What CPU ranges are judged to be.
 -- Assumes nothing: these are definitions, and one law.
 use mathlib.Core.Path.{_≡_}
 use mathlib.Core.Bool.{Bool, true, cond, _&&_}

@@ -59,12 +59,13 @@ pub struct Test {
     pub total: u64,
 }
 
-// A CPU's entry.
-pub(crate) struct Entry {
+// A CPU's entry, as stored.
+struct Entry {
     offset: u64,
     size: u64,
 }
 
+// The entry at a place. It is read as a part of its own, whose length the compiler knows.
 fn entry_at(s: &[u8], order: Order, at: usize) -> Entry
     requires { ⌜ at + 16 ≤ length (now s) ⌝ }
     ensures { λ r. ⌜ rangeOf (r .offset) (r .size) ≡ entryAt order (now (s .entry)) at ⌝ }
@@ -95,13 +96,14 @@ fn all_pass(s: &[u8], order: Order, test: Test, n: u32, from: usize) -> bool
     true
 }
 
-// Whether no two of n entries from `from` on overlap. From the last to the first each claims its units, and finds those of the later ones taken.
+// Whether no two of n entries from `from` on overlap. From the last to the first each claims its units: each is held to those behind it, as the
+// definition has it.
 fn all_apart(s: &[u8], order: Order, n: u32, from: usize) -> bool
     requires { ⌜ from + 16 * n ≤ length (now s) ⌝ }
     requires { ⌜ Each OnUnits (entries order (now s) n from) ⌝ }
     ensures { λ r. ⌜ r ≡ allApart (entries order (now (s .entry)) n from) ⌝ }
 {
-    let mut map = units::no_units();
+    let mut map = [0; 1024];
     let mut left = n;
     while 0 < left {
         left -= 1;

@@ -109,6 +109,10 @@ ranged n entries k = empty (0 ∷ 8 ∷ 0 ∷ 4 ∷ 0 ∷ 0 ∷ []) (n ∷ 0 ∷
 abbrev entry : ℕ → ℕ → ℕ → ℕ → List ℕ
 entry a b c d = a ∷ b ∷ 0 ∷ 0 ∷ 0 ∷ 0 ∷ 0 ∷ 0 ∷ c ∷ d ∷ 0 ∷ 0 ∷ 0 ∷ 0 ∷ 0 ∷ 0 ∷ []
 
+-- ranges at 1,024, 2,048, 5,120, 3,072 and 4,096, of a page each, the second longer by so many bytes
+abbrev five : ℕ → List ℕ
+five more = entry 0 4 0 4 ++ entry 0 8 more 4 ++ entry 0 0x14 0 4 ++ entry 0 0xC 0 4 ++ entry 0 0x10 0 4
+
 -- pages of as many bytes as these two say, times 256; one CPU with one byte at an offset of these bytes, then k zeros
 abbrev paged : ℕ → ℕ → List ℕ → ℕ → List ℕ
 paged low high offset k = empty (0 ∷ 8 ∷ 0 ∷ low ∷ high ∷ 0 ∷ []) (1 ∷ 0 ∷ 0 ∷ 0 ∷ flyrecord ++ offset ++ 1 ∷ replicate 7 0 ++ replicate k 0)
@@ -353,6 +357,16 @@ alignments =
     no (paged 0 1 (at 1 0 1) 65425) 16 ∷
     no (paged 4 0 (0 ∷ 4 ∷ 0 ∷ 0 ∷ 1 ∷ 0 ∷ 0 ∷ 0 ∷ []) 912) 16 ∷ []
 
+abbrev pairs : List Case
+pairs =
+    -- of five ranges out of order none overlap; the second and the fourth alone have a byte in common
+    read (ranged 5 (five 0) 5967) (plain Little 1024 5 Flyrecord 80) ∷
+    no (ranged 5 (five 1) 5967) 17 ∷
+    -- a range of size 0 within another; a byte twice, and a page
+    read (ranged 2 (entry 0 4 0 8 ++ entry 0 8 0 0) 2943) (plain Little 1024 2 Flyrecord 32) ∷
+    no (ranged 2 (entry 0 4 1 0 ++ entry 0 4 1 0) 2943) 17 ∷
+    no (ranged 2 (entry 0 4 0 4 ++ entry 0 4 0 4) 2943) 17 ∷ []
+
 abbrev borders : List Case
 borders =
     -- up to 65,536, the end of 64 units of 1,024 bytes, and from there on, the lower first and last; a byte in common; the unit before it twice
@@ -376,7 +390,7 @@ wholes =
     cpu 2 full (refused 16) ∷ []
 
 abbrev table : List (List Case)
-table = papers ∷ strings ∷ laterStrings ∷ numbers ∷ tails ∷ ranges ∷ alignments ∷ borders ∷ wholes ∷ []
+table = papers ∷ strings ∷ laterStrings ∷ numbers ∷ tails ∷ ranges ∷ alignments ∷ pairs ∷ borders ∷ wholes ∷ []
 
 pub cases-hold : Each (Each Holds) table
 unfolding summed cpuRange summary decode header checked opening flags sizes sections system texts tail tailAfter word options ending range
@@ -390,6 +404,7 @@ cases-hold =
     let of-ranges : Each Holds ranges = (refl, (refl, (refl, (refl, (refl, (refl, (refl, (refl, (refl, (refl, (refl, (refl, (refl, tt))))))))))))) in
     let of-alignments : Each Holds alignments =
     (refl, (refl, (refl, (refl, (refl, (refl, (refl, (refl, (refl, (refl, (refl, (refl, (refl, (refl, (refl, (refl, (refl, (refl, tt)))))))))))))))))) in
+    let of-pairs : Each Holds pairs = (refl, (refl, (refl, (refl, (refl, tt))))) in
     let of-borders : Each Holds borders = (refl, (refl, (refl, (refl, (refl, tt))))) in
     let of-wholes : Each Holds wholes = (refl, (refl, (refl, (refl, (refl, (refl, (refl, (refl, tt)))))))) in
-    (of-papers, (of-strings, (of-laterStrings, (of-numbers, (of-tails, (of-ranges, (of-alignments, (of-borders, (of-wholes, tt)))))))))
+    (of-papers, (of-strings, (of-laterStrings, (of-numbers, (of-tails, (of-ranges, (of-alignments, (of-pairs, (of-borders, (of-wholes, tt))))))))))

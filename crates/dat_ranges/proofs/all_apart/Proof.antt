@@ -1,5 +1,6 @@
 -- `dat_ranges::all_apart` meets its contract. The loop's invariant: the entries behind those that are left have claimed their units, and lie apart.
 -- Assumes nothing.
+use mathlib.Core.Path.{refl}
 use borrow.Author.Tests.{not-true, not-false}
 use Rattle.dat_ranges.proofs.ApartLaws.{Walk, walk-start, next-on, walk-on, walk-stop, walk-end}
 use borrow.Author.Needs.{needs}
@@ -17,7 +18,7 @@ abbrev Loop : Type 0
 Loop = tie.At-loop Inv-loop μ-loop
 
 loop-holds : tie.Need-loop-holds Inv-loop μ-loop
-loop-holds c = walk-start (c .no-units .ensures)
+loop-holds c = walk-start refl
 
 claim-range-requires : tie.Need-claim-range-requires Inv-loop μ-loop
 claim-range-requires c κs =
@@ -50,5 +51,5 @@ returns-2 c = let h : Loop = search in walk-end (h .loop .inv) (omega arith)
 pub all-apart-spec : {M : Type 1} → statement M
 all-apart-spec =
     tie.close
-    (tie.spec Inv-loop μ-loop (λ c κs. search needs) loop-holds (λ c. omega arith) (λ c. search needs) (λ c. omega arith) (λ c. omega arith)
+    (tie.spec Inv-loop μ-loop loop-holds (λ c. omega arith) (λ c. search needs) (λ c. omega arith) (λ c. omega arith)
     (λ c κs. omega arith) claim-range-requires returns (λ c. omega arith) loop-again returns-2)

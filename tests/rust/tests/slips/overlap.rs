@@ -1,6 +1,6 @@
 //! Slips about ranges that overlap, by readers that go by units of 1,024 bytes, 64 to a word.
 
-use super::{bad, read_with, Slip};
+use super::{bad, end, read_with, Slip};
 use std::collections::HashSet;
 use std::ops::Range;
 use tufakpeni_tests::answers::SECOND;
@@ -22,7 +22,7 @@ macro_rules! sharing {
     };
 }
 
-pub const SLIPS: [Slip; 8] = [
+pub const SLIPS: [Slip; 10] = [
     ("the last unit not claimed", sharing!(|range| (first(range)..(range.offset + range.size) / UNIT).collect())),
     (
         "the last unit not claimed for a byte of it",
@@ -33,6 +33,8 @@ pub const SLIPS: [Slip; 8] = [
     ("the first word claimed whole", sharing!(|range| (first(range) / WORD * WORD..behind(range)).collect())),
     ("words between not claimed", sharing!(|range| ends(range))),
     ("one word claimed", sharing!(|range| units(range).filter(|unit| unit / WORD == first(range) / WORD).collect())),
+    ("the first held to the others alone", Reader { dat_read: |file| read_with(file, bad, first_overlaps), ..SECOND }),
+    ("the last held to the others alone", Reader { dat_read: |file| read_with(file, bad, last_overlaps), ..SECOND }),
     (
         "ranges of size 0 claimed",
         Reader { dat_read: |file| read_with(file, bad, |ranges| shared(ranges.iter(), |range| near(range))), ..SECOND },
@@ -41,6 +43,18 @@ pub const SLIPS: [Slip; 8] = [
 
 /// All units of a range: two ranges share a byte exactly where they share one.
 pub const UNITS: Reader = sharing!(|range| units(range).collect());
+
+fn first_overlaps(ranges: &[CpuRange]) -> bool {
+    ranges.split_first().is_some_and(|(one, others)| others.iter().any(|other| overlap(one, other)))
+}
+
+fn last_overlaps(ranges: &[CpuRange]) -> bool {
+    ranges.split_last().is_some_and(|(one, others)| others.iter().any(|other| overlap(one, other)))
+}
+
+fn overlap(one: &CpuRange, other: &CpuRange) -> bool {
+    one.size.min(other.size) > 0 && u128::from(one.offset) < end(other) && u128::from(other.offset) < end(one)
+}
 
 fn shared<'r>(ranges: impl Iterator<Item = &'r CpuRange>, units: fn(&CpuRange) -> Vec<u64>) -> bool {
     let mut taken = HashSet::new();

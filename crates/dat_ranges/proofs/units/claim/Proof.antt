@@ -10,10 +10,10 @@ use Rattle.dat_ranges.proofs.units.claim.Statement.{statement}
 use Rattle.dat_ranges.proofs.units.claim.Tie as tie
 
 abbrev Inv-loop : tie.InvT-loop
-Inv-loop map₀ first last end stop word₀ bits₀ map word bits = (word ≤ stop) × Claiming first word bits map₀ map
+Inv-loop map₀ first last stop word₀ bits₀ map word bits = (word ≤ stop) × Claiming first word bits map₀ map
 
 abbrev μ-loop : tie.MeasureT-loop
-μ-loop map₀ first last end stop word₀ bits₀ map word bits = stop - word
+μ-loop map₀ first last stop word₀ bits₀ map word bits = stop - word
 
 abbrev Loop : Type 0
 Loop = tie.At-loop Inv-loop μ-loop
@@ -39,12 +39,12 @@ returns-2 : tie.Need-returns-2 Inv-loop μ-loop
 returns-2 c =
     let q : tie.Start Inv-loop μ-loop = search in
     let h : Loop = search in
-    let e : h .loop .word ≡ (q .args .last - 1) / 64 = omega arith in
-    claiming-last (q .args .last) (omega arith) (rw e at (h .loop .inv .1)) (c .before .bits-to .ensures) (omega arith) _
+    let e : h .loop .word ≡ q .args .last / 64 = omega arith in
+    claiming-last (q .args .last) (rw e at (h .loop .inv .1)) (c .before .bits-to .ensures) (omega arith) _
     (c .claim-bits2 .ensures .0) (c .claim-bits2 .ensures .1)
 
 pub claim-spec : {M : Type 1} → statement M
 claim-spec =
     tie.close
-    (tie.spec Inv-loop μ-loop (λ c. search needs) (λ c κs. search needs) loop-holds (λ c κs. search needs) returns (λ c κs. search needs)
+    (tie.spec Inv-loop μ-loop (λ c κs. search needs) loop-holds (λ c κs. search needs) returns (λ c κs. search needs)
     (λ c. search needs) (λ c. search needs) loop-again (λ c κs. search needs) (λ c κs. search needs) returns-2)

@@ -2,9 +2,9 @@
 use Prim.Native.Nat.{_+_, _<_, _≤_}
 use native.Mathlib.Nat.{pos-of-ne-zero}
 use Rattle.refusals.specs.Refusal.{limit}
-use Rattle.dat_format.specs.Units.{InUnit, units-are}
+use Rattle.dat_format.specs.Units.{InUnit}
 use Rattle.dat_ranges.specs.Ranges.{rangeOf}
-use Rattle.dat_ranges.proofs.MapLaws.{claim-none, claims-same}
+use Rattle.dat_ranges.proofs.MapLaws.{claim-none, range-units, claims-same}
 use native.Mathlib.Omega.{arith}
 use Rattle.dat_ranges.proofs.units.claim_range.Statement.{statement}
 use Rattle.dat_ranges.proofs.units.claim_range.Tie as tie
@@ -24,13 +24,11 @@ returns-2 : tie.Need-returns-2
 returns-2 c =
     let q : tie.Start = search in
     let k : tie.Else1 = search in
-    let is = units-are (rangeOf (q .args .offset) (q .args .size)) (some k) in
+    let is = range-units (rangeOf (q .args .offset) (q .args .size)) (some k) in
     claims-same is (c .claim .result) (q .args .map .now) (c .claim .last .0) (c .claim .ensures)
 
 claim-requires : tie.Need-claim-requires
 claim-requires c κs = let k : tie.Else1 = search in (k .before .pre .0, omega (arith, some k), omega (arith, within k))
 
 pub claim-range-spec : {M : Type 1} → statement M
-claim-range-spec =
-    tie.close
-    (tie.spec returns (λ c. record { fits = omega (arith, within c) }) (λ c. record { fits = omega (arith, within c) }) claim-requires returns-2)
+claim-range-spec = tie.close (tie.spec returns (λ c. record { fits = omega (arith, within c) }) (λ c. omega (arith, some c)) claim-requires returns-2)
