@@ -16,7 +16,7 @@ use Rattle.dat_format.specs.Tests.{apart, all, allApart}
 use Rattle.dat_format.specs.Units.{InUnit, NoUnitOfBoth, OnUnits, share-unit}
 use Rattle.dat_format.specs.RangeLaws.{apart-from}
 use Rattle.dat_format.specs.Entries.{entryAt, entries}
-use Rattle.dat_ranges.specs.Map.{bit, mark, Claimed, Claims}
+use Rattle.dat_ranges.specs.Map.{bit, mark, Claimed, ClaimSays}
 use Rattle.dat_ranges.proofs.BitLaws.{zero-bit}
 use Rattle.dat_ranges.proofs.EntryLaws.{of-later}
 
@@ -114,7 +114,7 @@ module _ {o : Order} {s : List ℕ} {n from left : ℕ} {m : List ℕ} (w : Walk
       pub next-on : OnUnits r
       next-on = rw e (all-on-units .0)
 
-      pub walk-on : (t : Bool) {after : List ℕ} → t ≡ true → Claims t (λ u. InUnit u r) m after → Walk o s n from (left - 1) after
+      pub walk-on : (t : Bool) {after : List ℕ} → t ≡ true → ClaimSays t (λ u. InUnit u r) m after → Walk o s n from (left - 1) after
       walk-on false f c = clash (cc)
       walk-on true f c = record {
         done = suc (w .done);
@@ -124,7 +124,7 @@ module _ {o : Order} {s : List ℕ} {n from left : ℕ} {m : List ℕ} (w : Walk
       }
 
       -- where the entries behind overlap, all do
-      pub walk-stop : (t : Bool) (after : List ℕ) → t ≡ false → Claims t (λ u. InUnit u r) m after → false ≡ allApart (entries o s n from)
+      pub walk-stop : (t : Bool) (after : List ℕ) → t ≡ false → ClaimSays t (λ u. InUnit u r) m after → false ≡ allApart (entries o s n from)
       walk-stop true after f c = clash (cc)
       walk-stop false after f c = sym (no-true (allApart (entries o s n from)) (λ a.
           let b = from-next (λ rs. allApart rs ≡ true) (λ r rs h. and-inv (all (apart r) rs) (allApart rs) h .1) a in

@@ -15,7 +15,7 @@ use lib.Dec.{eqb}
 use Rattle.dat_format.specs.Header.{Range}
 use Rattle.dat_format.specs.Units.{InUnit}
 use borrow.Author.Tests.{eqb-true, eqb-false}
-use Rattle.dat_ranges.specs.Map.{bit, mark, Bits, Claimed, Claims, From}
+use Rattle.dat_ranges.specs.Map.{bit, mark, Bits, Claimed, ClaimSays, From}
 use Rattle.dat_ranges.proofs.BitLaws.{or-bit, and-bit, zero-bit, or-one, and-one, none-set}
 
 -- where no unit is to be claimed, nothing changes
@@ -31,7 +31,7 @@ range-units r some u = (
 )
 
 -- the same units, told in another way
-pub claims-same : {P Q : ℕ → Type 0} → ((u : ℕ) → Q u ↔ P u) → (r : Bool) (m after : List ℕ) → Claims r P m after → Claims r Q m after
+pub claims-same : {P Q : ℕ → Type 0} → ((u : ℕ) → Q u ↔ P u) → (r : Bool) (m after : List ℕ) → ClaimSays r P m after → ClaimSays r Q m after
 claims-same is true m after c = record {
   words = c .words;
   free = λ u q. c .free u ((is u) .0 q);
@@ -180,7 +180,7 @@ module _ (last : ℕ) {first bits top : ℕ} {m n : List ℕ} (c : Claiming firs
   }
 
   pub claiming-last : last < 65536 → (r : Bool) {after : List ℕ} → r ≡ eqb (bitAnd (getD n stop 0) (bitAnd bits top)) 0
-      → after ≡ set n stop (bitOr (getD n stop 0) (bitAnd bits top)) → Claims r (From first (last + 1)) m after
+      → after ≡ set n stop (bitOr (getD n stop 0) (bitAnd bits top)) → ClaimSays r (From first (last + 1)) m after
   claiming-last h true e s =
       rw s (claim-word stop (c .done) both (omega arith) (omega arith) (omega (arith, c .room, c .done .words)) (eqb-true _ 0 (sym e)))
   claiming-last h false e s =

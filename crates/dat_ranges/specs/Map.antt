@@ -28,9 +28,9 @@ pub record Claimed (P : ℕ → Type 0) (m after : List ℕ) : Type 0 where
   pub outside : (u : ℕ) → (P u → ⊥) → mark after u ≡ mark m u
 
 -- what a claim answers of the units of which P holds: yes where they were all free, and are marked then; no where one was taken
-abbrev pub Claims : Bool → (ℕ → Type 0) → List ℕ → List ℕ → Type 0
-Claims true P m after = Claimed P m after
-Claims false P m after = ((u : ℕ) → P u → mark m u ≡ 0) → ⊥
+abbrev pub ClaimSays : Bool → (ℕ → Type 0) → List ℕ → List ℕ → Type 0
+ClaimSays true P m after = Claimed P m after
+ClaimSays false P m after = ((u : ℕ) → P u → mark m u ≡ 0) → ⊥
 
 -- the units from a up to e
 abbrev pub From : ℕ → ℕ → ℕ → Type 0

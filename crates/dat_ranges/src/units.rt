@@ -6,7 +6,7 @@ ghost use lib.Bits.{bitAnd, bitOr};
 ghost use lib.Dec.{eqb};
 ghost use lib.ListN.{length, getD, set};
 ghost use Rattle.dat_format.specs.Units.{InUnit, OnUnits};
-ghost use Rattle.dat_ranges.specs.Map.{Bits, Claims, From};
+ghost use Rattle.dat_ranges.specs.Map.{Bits, ClaimSays, From};
 ghost use Rattle.dat_ranges.specs.Ranges.{rangeOf};
 
 // The bits of a word from `low` on.
@@ -39,7 +39,7 @@ fn claim_bits(map: &mut [u64; 1024], word: usize, bits: u64) -> bool
 // Claims the units from `first` to `last`, both among them; whether they were free.
 fn claim(map: &mut [u64; 1024], first: usize, last: usize) -> bool
     requires { ⌜ (length (now map) ≡ 1024) × (first ≤ last) × (last < 65536) ⌝ }
-    ensures { λ r. ⌜ Claims r (From first (last + 1)) (now (map .entry)) (now (map .exit)) ⌝ }
+    ensures { λ r. ⌜ ClaimSays r (From first (last + 1)) (now (map .entry)) (now (map .exit)) ⌝ }
 {
     let stop = last / 64;
     let mut word = first / 64;
@@ -57,7 +57,7 @@ fn claim(map: &mut [u64; 1024], first: usize, last: usize) -> bool
 // Claims the units of a range, none where it is of size 0; whether they were free.
 pub(crate) fn claim_range(map: &mut [u64; 1024], offset: u64, size: u64) -> bool
     requires { ⌜ (length (now map) ≡ 1024) × OnUnits (rangeOf offset size) ⌝ }
-    ensures { λ r. ⌜ Claims r (λ u. InUnit u (rangeOf offset size)) (now (map .entry)) (now (map .exit)) ⌝ }
+    ensures { λ r. ⌜ ClaimSays r (λ u. InUnit u (rangeOf offset size)) (now (map .entry)) (now (map .exit)) ⌝ }
 {
     if size == 0 {
         return true;
