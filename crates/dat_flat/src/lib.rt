@@ -1,4 +1,5 @@
 // The structs of the C interface about a trace.dat file: an answer is the refusal 0 and the values, or the refusal's number and zeros.
+#![tactic(auto)]
 ghost use Rattle.std.specs.Prelude.{◌≡◌};
 ghost use Rattle.tracedat.specs.Questions.{summary_meaning, range_meaning};
 ghost use Rattle.dat_flat.specs.Flat.{order_number, ending_number, flat_part, shown_summary, refused_summary, flat_summary, flat_range};
@@ -9,7 +10,7 @@ use fields::Order;
 use tracedat::{RangeAnswer, SummaryAnswer};
 
 #[repr(C)]
-#[derive(Drop)]
+#[derive(Clone, Copy)]
 pub struct Part {
     pub place: usize,
     pub size: usize,
@@ -45,7 +46,7 @@ fn ending_number(ending: EndingKind) -> u8
 }
 
 #[repr(C)]
-#[derive(Drop)]
+#[derive(Clone, Copy)]
 pub struct DatSummary {
     pub refusal: u8,
     pub order: u8,
@@ -139,7 +140,7 @@ pub fn flat_summary(answer: SummaryAnswer) -> DatSummary
 }
 
 #[repr(C)]
-#[derive(Drop)]
+#[derive(Clone, Copy)]
 pub struct CpuRange {
     pub refusal: u8,
     pub offset: u64,

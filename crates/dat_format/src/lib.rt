@@ -1,4 +1,5 @@
 // Which long sizes and page sizes a trace.dat header may state.
+#![tactic(auto)]
 ghost use Rattle.std.specs.Prelude.{◌≡◌};
 ghost use Rattle.dat_format.specs.Tests.{is_long, is_page};
 

@@ -1,5 +1,6 @@
 // Lists the header of a trace.dat file of version 6 from standard input on standard output: flags, counts, the place and size of
 // each section, and each CPU's range. A refusal prints `refused` and its number.
+#![tactic(auto)]
 ghost use Rattle.std.specs.Prelude.{◌≡◌, length};
 
 use dat_read::summary::{EndingKind, Flags, Part, Summary};

@@ -1,4 +1,5 @@
 // What a trace.dat file asks of its CPU ranges.
+#![tactic(auto)]
 ghost use Rattle.std.specs.Prelude.{◌≡◌, ◌+◌, ◌*◌, ◌≤◌, true, ◌↔◌, length, nat_le};
 ghost use Rattle.dat_format.specs.Layout.{PageFits, Multiple};
 ghost use Rattle.dat_format.specs.Tests.{in_file, all, all_apart};
@@ -49,7 +50,7 @@ fn in_file(page: u32, end: u64, total: u64, offset: u64, size: u64) -> bool
 }
 
 // What each of several ranges is held to: the file's page size, its header's end and its length.
-#[derive(Drop)]
+#[derive(Clone, Copy)]
 pub struct Test {
     pub page: u32,
     pub end: u64,
@@ -57,7 +58,7 @@ pub struct Test {
 }
 
 // A CPU's entry, as stored.
-#[derive(Drop)]
+#[derive(Clone, Copy)]
 struct Entry {
     offset: u64,
     size: u64,
@@ -114,7 +115,7 @@ fn all_apart(s: &[u8], order: Order, n: u32, from: usize) -> bool
 }
 
 // What n ranges are found to be.
-#[derive(Drop)]
+#[derive(Clone, Copy)]
 pub enum Judgement {
     Sound,
     Misplaced,

@@ -1,3 +1,4 @@
 // What a header's summary holds, and the pieces that a header is made of.
+#![tactic(auto)]
 pub mod pieces;
 pub mod summary;

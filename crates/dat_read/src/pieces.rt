@@ -9,7 +9,7 @@ use fields::Order;
 use refusals::{BAD_CONSTANT, FIELD_PAST_FILE};
 
 // The place after what a step read, or a refusal.
-#[derive(Drop)]
+#[derive(Clone, Copy)]
 pub enum Step {
     Next(usize),
     Refused(u8),
@@ -41,7 +41,7 @@ pub fn fixed_at<'a>(s: &'a [u8], word: &'a [u8], at: usize) -> Step
 }
 
 // How many bytes a size field has.
-#[derive(Drop)]
+#[derive(Clone, Copy)]
 pub enum Width {
     Four,
     Eight,

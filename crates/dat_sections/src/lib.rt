@@ -1,4 +1,5 @@
 // The sections of a header: header page and header event, the ftrace formats, the event systems.
+#![tactic(auto)]
 ghost use Rattle.std.specs.Prelude.{◌≡◌, ◌≤◌, length};
 ghost use Rattle.fields.specs.Reader.{seen_at, pass_at};
 ghost use Rattle.dat_format.specs.Pieces.{after, sized, times, counted, name};
@@ -114,7 +115,7 @@ fn systems_at(s: &[u8], order: Order, at: usize) -> Step
     systems_from(s, order, fields::u32_at(s, order, at), at + 4)
 }
 
-#[derive(Drop)]
+#[derive(Clone, Copy)]
 pub enum SectionsStep {
     Found { sections: SectionParts, next: usize },
     Refused(u8),

@@ -1,4 +1,5 @@
 // The tail of a header: options, if there are any, and the ending with its CPU entries.
+#![tactic(auto)]
 ghost use Rattle.std.specs.Prelude.{◌≡◌, ◌≤◌, length};
 ghost use Rattle.fields.specs.Reader.{seen_at, pass_at};
 ghost use Rattle.dat_format.specs.Pieces.{times};
@@ -15,14 +16,14 @@ use fields::Order;
 use refusals::{BAD_CONSTANT, FIELD_PAST_FILE};
 
 // The 10-byte words.
-#[derive(Drop)]
+#[derive(Clone, Copy)]
 pub(crate) enum Word {
     Options,
     Latency,
     Flyrecord,
 }
 
-#[derive(Drop)]
+#[derive(Clone, Copy)]
 pub(crate) enum WordStep {
     Found { word: Word, next: usize },
     Refused(u8),
@@ -93,7 +94,7 @@ fn entries_at(s: &[u8], order: Order, n: u32, at: usize) -> Step
     Step::Next(at + size)
 }
 
-#[derive(Drop)]
+#[derive(Clone, Copy)]
 pub enum TailStep {
     Found { parts: TailParts, next: usize },
     Refused(u8),

@@ -1,4 +1,5 @@
 // The texts of a header: kallsyms, printk formats, process names; and the CPU count behind them.
+#![tactic(auto)]
 ghost use Rattle.std.specs.Prelude.{◌≡◌};
 ghost use Rattle.fields.specs.Reader.{seen_at};
 ghost use Rattle.dat_format.specs.Decode.{texts};
@@ -11,7 +12,7 @@ use dat_read::{pieces, summary};
 use fields::Order;
 use refusals::{BAD_RANGE, FIELD_PAST_FILE};
 
-#[derive(Drop)]
+#[derive(Clone, Copy)]
 pub enum TextsStep {
     Found { texts: TextParts, next: usize },
     Refused(u8),

@@ -1,4 +1,5 @@
 // Walking a trace.dat header front to back, without a look at its CPU ranges.
+#![tactic(auto)]
 mod opening;
 
 ghost use Rattle.std.specs.Prelude.{◌≡◌, length};
@@ -25,7 +26,7 @@ fn body_of(ending: EndingKind, place: usize, end: usize, total: usize) -> Part
 }
 
 // A header's summary and its end, or a refusal.
-#[derive(Drop)]
+#[derive(Clone, Copy)]
 pub enum Walked {
     Header { summary: Summary, end: usize },
     Refused(u8),

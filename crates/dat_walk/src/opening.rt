@@ -11,7 +11,7 @@ use dat_read::summary::Flags;
 use fields::Order;
 use refusals::{BAD_CONSTANT, FIELD_PAST_FILE};
 
-#[derive(Drop)]
+#[derive(Clone, Copy)]
 pub(crate) enum OpeningStep {
     Found { flags: Flags, next: usize },
     Refused(u8),

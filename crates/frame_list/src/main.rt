@@ -1,4 +1,5 @@
 // Lists the frames of a little-endian GDB trace from standard input on standard output.
+#![tactic(auto)]
 ghost use Rattle.std.specs.Prelude.{◌≡◌, ◌≤◌, length, take};
 ghost use Rattle.gdb_listing.specs.Text.{text, listed};
 

@@ -6,7 +6,7 @@ pub const ROOM: usize = 256;
 
 // The bytes that are the file are the first `len`. A piece that finds no room leaves `len` above ROOM, so that a case
 // can not quietly run on a file that was cut.
-#[derive(Drop)]
+#[derive(Clone, Copy)]
 pub struct File {
     pub bytes: [u8; 256],
     pub len: usize,

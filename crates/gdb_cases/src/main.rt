@@ -14,6 +14,7 @@
 //   * CALL        a cut of the first file, a join of both, or a question about the pair: edit.rt and pair.rt
 //   # NOTE
 // The questions stand in ask.rt and steps.rt. Marks between a row's numbers are for the reader.
+#![tactic(auto)]
 mod ask;
 mod edit;
 mod file;

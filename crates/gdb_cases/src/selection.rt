@@ -3,7 +3,7 @@ use crate::{show, table};
 use gdb_select::{Range, Selection};
 
 // A range, and the place after its numbers.
-#[derive(Drop)]
+#[derive(Clone, Copy)]
 struct RangeStep {
     range: Range,
     next: usize,

@@ -34,7 +34,7 @@ pub(crate) fn line_end(t: &[u8], from: usize) -> usize
 }
 
 // A number and the place after its digits; 0 where there is none.
-#[derive(Drop)]
+#[derive(Clone, Copy)]
 pub struct Number {
     pub value: u64,
     pub found: bool,

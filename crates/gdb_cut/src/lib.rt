@@ -1,4 +1,5 @@
 // Cutting GDB traces into an output that the caller lends.
+#![tactic(auto)]
 ghost use Rattle.std.specs.Prelude.{◌≡◌, ◌+◌, ◌≤◌, leb, length, drop};
 ghost use Rattle.fields.specs.Output.{Lent};
 ghost use Rattle.gdb_cut.specs.Cut.{cut_of, edit_meaning};
@@ -9,7 +10,7 @@ use gdb_read::{FrameStep, Reading};
 use gdb_select::Selection;
 use refusals::{BAD_ARGUMENT, NO_ROOM};
 
-#[derive(Drop)]
+#[derive(Clone, Copy)]
 pub enum EditAnswer {
     Written(usize),
     Refused(u8),

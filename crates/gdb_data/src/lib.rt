@@ -1,4 +1,5 @@
 // The data of a frame: what block stands at a place, and whether blocks fill the data.
+#![tactic(auto)]
 ghost use Rattle.std.specs.Prelude.{◌≡◌, ◌+◌, ◌<◌, false, length, drop};
 ghost use Rattle.refusals.specs.Refusal.{block_past_data};
 ghost use Rattle.fields.specs.Reader.{bytes, step_at, pass_at};
@@ -13,14 +14,14 @@ use gdb_format::{Format, RegisterSize};
 use refusals::{BAD_LETTER, BLOCK_PAST_DATA, NO_REGISTER_SIZE, SECOND_REGISTERS};
 
 // The memory that a block holds: where it starts, and how many bytes.
-#[derive(Drop)]
+#[derive(Clone, Copy)]
 pub struct MemorySpan {
     pub address: u64,
     pub length: usize,
 }
 
 // A block's kind, with what that kind carries.
-#[derive(Drop)]
+#[derive(Clone, Copy)]
 pub enum BlockKind {
     Registers,
     Memory(MemorySpan),
@@ -28,14 +29,14 @@ pub enum BlockKind {
 }
 
 // A block: the place of its letter, and its kind.
-#[derive(Drop)]
+#[derive(Clone, Copy)]
 pub struct BlockRecord {
     pub place: usize,
     pub kind: BlockKind,
 }
 
 // What stands where a block may start: the end of the data, a block with the place after it, or a refusal.
-#[derive(Drop)]
+#[derive(Clone, Copy)]
 pub enum BlockStep {
     End,
     Block { record: BlockRecord, next: usize },
@@ -43,7 +44,7 @@ pub enum BlockStep {
 }
 
 // Where a block ends: the place after it, or a refusal. The walk that checks a file needs no more of it.
-#[derive(Drop)]
+#[derive(Clone, Copy)]
 enum BlockEnd {
     At(usize),
     Refused(u8),
@@ -91,7 +92,7 @@ fn registers_end(size: RegisterSize, seen: bool, d: &[u8], at: usize) -> BlockEn
 }
 
 // What stands where a memory or variable block may stand: where it ends, or neither of both.
-#[derive(Drop)]
+#[derive(Clone, Copy)]
 enum OtherBlock {
     Block(BlockEnd),
     Neither,
@@ -166,7 +167,7 @@ pub fn block_at(format: Format, size: RegisterSize, d: &[u8], at: usize) -> Bloc
 
 // What stands where a block may start, for a search: the end of the data, a block that is sought or another, each with the place after it, or a refusal.
 // A walk over many blocks asks for no more than it needs.
-#[derive(Drop)]
+#[derive(Clone, Copy)]
 pub enum SearchStep {
     End,
     Sought(usize),
@@ -229,14 +230,14 @@ pub fn variable_at(
 }
 
 // Whether blocks fill the data, or the refusal of the first that does not fit.
-#[derive(Drop)]
+#[derive(Clone, Copy)]
 pub enum Verdict {
     Sound,
     Refused(u8),
 }
 
 // Where a walk over memory and variable blocks stops: the end of the data, the place of another letter, or a refusal.
-#[derive(Drop)]
+#[derive(Clone, Copy)]
 enum Stop {
     End,
     Letter(usize),

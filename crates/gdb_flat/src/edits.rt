@@ -10,7 +10,7 @@ use gdb_select::Range;
 
 // A selection as C has it: `keep` is 0 for the numbers in none of the ranges, any other value for those in some.
 #[repr(C)]
-#[derive(Drop)]
+#[derive(Clone, Copy)]
 pub struct Selection {
     pub ranges: [Range; 8],
     pub count: usize,
@@ -40,7 +40,7 @@ pub fn flat_selection(selection: gdb_select::Selection) -> Selection
 }
 
 #[repr(C)]
-#[derive(Drop)]
+#[derive(Clone, Copy)]
 pub struct Length {
     pub refusal: u8,
     pub length: usize,
@@ -56,7 +56,7 @@ pub fn flat_length(answer: EditAnswer) -> Length
 }
 
 #[repr(C)]
-#[derive(Drop)]
+#[derive(Clone, Copy)]
 pub struct PairPart {
     pub refusal: u8,
     pub trace: u8,

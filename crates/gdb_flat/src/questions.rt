@@ -15,7 +15,7 @@ use gdb_seek::FrameAnswer;
 use gdb_table::TableAnswer;
 
 #[repr(C)]
-#[derive(Drop)]
+#[derive(Clone, Copy)]
 pub struct Count {
     pub refusal: u8,
     pub count: usize,
@@ -40,7 +40,7 @@ pub fn flat_table(answer: TableAnswer) -> Count
 }
 
 #[repr(C)]
-#[derive(Drop)]
+#[derive(Clone, Copy)]
 pub struct Mark {
     pub refusal: u8,
     pub marked: u8,
@@ -77,7 +77,7 @@ fn kind_number(kind: LineKind) -> u8
 }
 
 #[repr(C)]
-#[derive(Drop)]
+#[derive(Clone, Copy)]
 pub struct Line {
     pub refusal: u8,
     pub kind: u8,
@@ -109,7 +109,7 @@ pub fn flat_line(answer: LineAnswer) -> Line
 }
 
 #[repr(C)]
-#[derive(Drop)]
+#[derive(Clone, Copy)]
 pub struct Place {
     pub refusal: u8,
     pub place: usize,
@@ -134,7 +134,7 @@ pub fn flat_place(answer: PlaceAnswer) -> Place
 }
 
 #[repr(C)]
-#[derive(Drop)]
+#[derive(Clone, Copy)]
 pub struct FramePart {
     pub refusal: u8,
     pub place: usize,
@@ -166,7 +166,7 @@ pub fn flat_frame(answer: FrameAnswer) -> FramePart
 }
 
 #[repr(C)]
-#[derive(Drop)]
+#[derive(Clone, Copy)]
 pub struct Block {
     pub refusal: u8,
     pub letter: u8,
@@ -231,7 +231,7 @@ pub fn flat_block(answer: BlockAnswer) -> Block
 }
 
 #[repr(C)]
-#[derive(Drop)]
+#[derive(Clone, Copy)]
 pub struct Value {
     pub refusal: u8,
     pub value: i64,

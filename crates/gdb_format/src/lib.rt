@@ -1,4 +1,5 @@
 // The GDB trace file: the reader's settings, and the opening (head and description). The format itself is in specs/.
+#![tactic(auto)]
 ghost use Rattle.std.specs.Prelude.{◌≡◌, [], ◌+◌, length, drop};
 ghost use Rattle.gdb_format.specs.Settings.{default_settings, radix, format_in, settings_of, format_meaning};
 ghost use Rattle.gdb_format.specs.Lines.{is_register, is_status, kind_of, most_digits, digit, size_of};
@@ -10,7 +11,7 @@ use refusals::{BAD_ARGUMENT, BAD_HEAD, BAD_LINE, NO_EMPTY_LINE};
 
 // How a file is to be read, in the caller's numbers: the byte order is 0 for little, 1 for big; the base of the R line is 16 or 10.
 #[repr(C)]
-#[derive(Drop)]
+#[derive(Clone, Copy)]
 pub struct Settings {
     pub order: u8,
     pub base: u8,
@@ -24,20 +25,20 @@ pub fn default_settings(order: u8) -> Settings
 }
 
 // The base of the R line's number.
-#[derive(Drop)]
+#[derive(Clone, Copy)]
 pub enum Base {
     Ten,
     Sixteen,
 }
 
 // The same, checked.
-#[derive(Drop)]
+#[derive(Clone, Copy)]
 pub struct Format {
     pub order: Order,
     pub base: Base,
 }
 
-#[derive(Drop)]
+#[derive(Clone, Copy)]
 pub enum Checked {
     Known(Format),
     Refused(u8),
@@ -73,7 +74,7 @@ pub fn format_of(settings: Settings) -> Checked
 }
 
 // A description line's kind, as what it starts with tells.
-#[derive(Drop)]
+#[derive(Clone, Copy)]
 pub enum LineKind {
     Registers,
     Status,
@@ -116,7 +117,7 @@ pub fn line_kind(l: &[u8]) -> LineKind
     LineKind::Other
 }
 
-#[derive(Drop)]
+#[derive(Clone, Copy)]
 enum Digits {
     Value(usize),
     Bad,
@@ -186,20 +187,20 @@ fn size_in(format: Format, l: &[u8]) -> Digits
 }
 
 // The size of a register block, where the description says one.
-#[derive(Drop)]
+#[derive(Clone, Copy)]
 pub enum RegisterSize {
     Unknown,
     Bytes(usize),
 }
 
 // What the lines so far have said.
-#[derive(Drop)]
+#[derive(Clone, Copy)]
 struct Seen {
     size: RegisterSize,
     status: bool,
 }
 
-#[derive(Drop)]
+#[derive(Clone, Copy)]
 enum LineStep {
     Next(Seen),
     Refused(u8),
@@ -254,7 +255,7 @@ pub fn line_end(s: &[u8], from: usize) -> usize
 }
 
 // Where the description ends, after the empty line's 0A, and the register size that it states.
-#[derive(Drop)]
+#[derive(Clone, Copy)]
 pub enum Opening {
     Found { end: usize, size: RegisterSize },
     Refused(u8),

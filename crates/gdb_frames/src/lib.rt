@@ -1,4 +1,5 @@
 // Questions about the lines and frames of a GDB trace. Each takes any file and any arguments, and reads the whole file first. (The data of frame n: gdb_seek.)
+#![tactic(auto)]
 ghost use Rattle.std.specs.Prelude.{◌≡◌};
 ghost use Rattle.fields.specs.Answer.{accepted};
 ghost use Rattle.gdb_frames.specs.Places.{part_named};
@@ -12,7 +13,7 @@ use gdb_format::{Format, LineKind, RegisterSize, Settings};
 use gdb_read::{FrameHead, FrameStep, Reading};
 use refusals::NOT_FOUND;
 
-#[derive(Drop)]
+#[derive(Clone, Copy)]
 pub enum CountAnswer {
     Frames(usize),
     Refused(u8),
@@ -29,7 +30,7 @@ pub fn frame_count(settings: Settings, file: &[u8]) -> CountAnswer
 }
 
 // Whether the end mark is there, or the refusal.
-#[derive(Drop)]
+#[derive(Clone, Copy)]
 pub enum MarkAnswer {
     Marked,
     Unmarked,
@@ -51,7 +52,7 @@ pub fn end_mark(settings: Settings, file: &[u8]) -> MarkAnswer
 }
 
 // A part of the file by its place and length, or the refusal.
-#[derive(Drop)]
+#[derive(Clone, Copy)]
 pub enum PlaceAnswer {
     At { place: usize, length: usize },
     Refused(u8),
@@ -81,14 +82,14 @@ pub fn nth_head(format: Format, s: &[u8], from: usize, n: usize) -> FrameStep
 }
 
 // A frame of an accepted file: how the file is read, the register size that it states, and the frame's head.
-#[derive(Drop)]
+#[derive(Clone, Copy)]
 pub struct Located {
     pub format: Format,
     pub size: RegisterSize,
     pub head: FrameHead,
 }
 
-#[derive(Drop)]
+#[derive(Clone, Copy)]
 pub enum LocatedAnswer {
     Frame(Located),
     Refused(u8),
@@ -166,7 +167,7 @@ fn nth_line(s: &[u8], from: usize, j: usize) -> PlaceAnswer
 }
 
 // A description line: its kind, and its place and length without its 0A; or the refusal.
-#[derive(Drop)]
+#[derive(Clone, Copy)]
 pub enum LineAnswer {
     Line {
         kind: LineKind,

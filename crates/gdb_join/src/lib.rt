@@ -1,4 +1,5 @@
 // Joining GDB traces into an output that the caller lends.
+#![tactic(auto)]
 ghost use Rattle.std.specs.Prelude.{◌≡◌, ◌||◌, ◌++◌, ◌+◌, ◌≤◌, length};
 ghost use Rattle.fields.specs.Copies.{Overwritten};
 ghost use Rattle.fields.specs.Output.{Lent};
@@ -15,7 +16,7 @@ use gdb_read::{Opened, Reading};
 use refusals::{LIMIT, NO_ROOM, OPENINGS_DIFFER, TOO_LONG};
 
 // Two traces that can be joined, each as it was read; or the join's refusal.
-#[derive(Drop)]
+#[derive(Clone, Copy)]
 pub enum Pair {
     Sound { first: Opened, second: Opened },
     Refused(u8),

@@ -1,4 +1,5 @@
 // A trace listed as text: the number of frames, and a line for each frame; or the refusal.
+#![tactic(auto)]
 ghost use Rattle.std.specs.Prelude.{◌≡◌, [], ◌∷◌, ◌+◌, ◌<◌, ◌≤◌, length};
 ghost use Rattle.fields.specs.Lists.{concat_map};
 ghost use Rattle.fields.specs.Answer.{accepted, refused};
@@ -18,7 +19,7 @@ use refusals::TOO_LONG;
 const LIMIT: usize = 65536;
 
 // The number of bytes written, or that the output is too short.
-#[derive(Drop)]
+#[derive(Clone, Copy)]
 pub enum ListingAnswer {
     Written(usize),
     NoRoom,

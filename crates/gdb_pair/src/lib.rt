@@ -1,4 +1,5 @@
 // Two GDB traces read as if they were joined, with no copy made.
+#![tactic(auto)]
 ghost use Rattle.std.specs.Prelude.{◌≡◌, take};
 ghost use Rattle.gdb_frames.specs.Nth.{nth_head};
 ghost use Rattle.gdb_frames.specs.Questions.{place_meaning};
@@ -28,7 +29,7 @@ fn frame_in(o: Opened, file: &[u8], n: usize) -> PlaceAnswer
 }
 
 // Which trace a frame's data stand in, and where; or the refusal.
-#[derive(Drop)]
+#[derive(Clone, Copy)]
 pub enum PairPlace {
     First { place: usize, length: usize },
     Second { place: usize, length: usize },

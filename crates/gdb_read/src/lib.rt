@@ -1,4 +1,5 @@
 // Reading a GDB trace: what frame stands at a place, and the whole file.
+#![tactic(auto)]
 ghost use Rattle.std.specs.Prelude.{◌≡◌, ◌-◌, ◌<◌, ◌≤◌, length, take, drop};
 ghost use Rattle.fields.specs.Answer.{refused};
 ghost use Rattle.fields.specs.Word.{same_bytes};
@@ -16,7 +17,7 @@ use gdb_format::{Checked, Format, Opening, RegisterSize, Settings};
 use refusals::{BAD_MARK, DATA_PAST_FILE, LIMIT, SHORT_HEAD, TOO_LONG};
 
 // A frame's head: its tracepoint number, and the place and size of its data.
-#[derive(Drop)]
+#[derive(Clone, Copy)]
 pub struct FrameHead {
     pub tracepoint: u16,
     pub place: usize,
@@ -25,7 +26,7 @@ pub struct FrameHead {
 
 // What stands where a frame may start: the end of the file, a frame with the place after it, or a refusal. The end mark is no frame: 18 here.
 // So a walk is given the file up to where its frames end (`front`), goes by their number, or asks for the mark first (`frames_from`, and `gdb_seek` for one frame).
-#[derive(Drop)]
+#[derive(Clone, Copy)]
 pub enum FrameStep {
     End,
     Frame { head: FrameHead, next: usize },
@@ -128,7 +129,7 @@ pub fn mark_length(marked: bool) -> usize
 }
 
 // So many frames, and whether the end mark stands behind them; or the refusal of the first that does not fit.
-#[derive(Drop)]
+#[derive(Clone, Copy)]
 pub enum FrameCount {
     Frames { count: usize, marked: bool },
     Refused(u8),
@@ -173,7 +174,7 @@ pub fn frames_from(format: Format, size: RegisterSize, s: &[u8], from: usize) ->
 
 // A file that was read whole: how, the register size that it states, where its frames start and end, how many it has, and whether the mark
 // stands behind them.
-#[derive(Drop)]
+#[derive(Clone, Copy)]
 pub struct Opened {
     pub format: Format,
     pub size: RegisterSize,
@@ -183,7 +184,7 @@ pub struct Opened {
     pub marked: bool,
 }
 
-#[derive(Drop)]
+#[derive(Clone, Copy)]
 pub enum Reading {
     Accepted(Opened),
     Refused(u8),

@@ -1,5 +1,6 @@
 // Frame n of a GDB trace by the parts of the file that show it: the opening, the heads of frames 0 to n, and the blocks of frame n. What stands
 // elsewhere is not read: such a frame costs what these parts cost, and is found in a file, too, that is at fault behind it or in an earlier frame's blocks.
+#![tactic(auto)]
 ghost use Rattle.std.specs.Prelude.{◌≡◌};
 ghost use Rattle.gdb_format.specs.Opening.{size_meaning};
 ghost use Rattle.gdb_read.specs.Steps.{frame_meaning};
@@ -24,7 +25,7 @@ fn head_or_end(format: Format, s: &[u8], at: usize) -> FrameStep
 }
 
 // The head that a walk was to reach, and how many it has read; or why it did not.
-#[derive(Drop)]
+#[derive(Clone, Copy)]
 enum Reached {
     Head { head: FrameHead, heads: usize },
     Refused(u8),
@@ -57,7 +58,7 @@ fn walk_to(format: Format, s: &[u8], from: usize, n: usize) -> Reached
 }
 
 // The data of a frame, by place and length, and how many frame heads were read for it; or the refusal.
-#[derive(Drop)]
+#[derive(Clone, Copy)]
 pub enum FrameAnswer {
     At {
         place: usize,

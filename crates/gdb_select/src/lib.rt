@@ -1,17 +1,18 @@
 // Selections of frames by their tracepoint numbers.
+#![tactic(auto)]
 ghost use Rattle.std.specs.Prelude.{◌≡◌, length, take};
 ghost use Rattle.gdb_select.specs.Selection.{in_some, selects, meaning, valid, against};
 
 // Tracepoint numbers from low to high, both among them.
 #[repr(C)]
-#[derive(Drop)]
+#[derive(Clone, Copy)]
 pub struct Range {
     pub low: u16,
     pub high: u16,
 }
 
 // The numbers in one of the first `count` ranges, or with `keep` false the others. The ranges behind are no part of it.
-#[derive(Drop)]
+#[derive(Clone, Copy)]
 pub struct Selection {
     pub ranges: [Range; 8],
     pub count: usize,

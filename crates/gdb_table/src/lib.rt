@@ -1,4 +1,5 @@
 // The frame table of a GDB trace: one record per frame, in a list of records that the caller lends.
+#![tactic(auto)]
 ghost use Rattle.std.specs.Prelude.{◌≡◌};
 ghost use Rattle.gdb_read.specs.Steps.{head_meaning};
 ghost use Rattle.fields.specs.Output.{Lent};
@@ -15,7 +16,7 @@ use refusals::{NO_ROOM, NOT_FOUND};
 // A frame's record: its tracepoint number, the place of its data, and their size; whether it has a register block, 1 or 0, and the place of the earliest
 // one's bytes, 0 if not. The yes or no is a byte, since a lent record may hold any byte there.
 #[repr(C)]
-#[derive(Drop)]
+#[derive(Clone, Copy)]
 pub struct FrameRecord {
     pub tracepoint: u16,
     pub has_registers: u8,
@@ -25,7 +26,7 @@ pub struct FrameRecord {
 }
 
 // What a record tells of the registers.
-#[derive(Drop)]
+#[derive(Clone, Copy)]
 struct Told {
     yes: u8,
     place: usize,
@@ -55,7 +56,7 @@ fn record_of(head: FrameHead, registers: PlaceAnswer) -> FrameRecord
 }
 
 // A frame's record, and the place after the frame.
-#[derive(Drop)]
+#[derive(Clone, Copy)]
 struct Step {
     found: FrameRecord,
     next: usize,
@@ -76,7 +77,7 @@ fn nothing() -> Step
 }
 
 // How a file's frames are read: the format, and the register size.
-#[derive(Drop)]
+#[derive(Clone, Copy)]
 struct Manner {
     format: Format,
     size: RegisterSize,
@@ -116,14 +117,14 @@ fn step_at(manner: Manner, file: &[u8], at: usize) -> Step
 }
 
 // The number of frames, or the refusal.
-#[derive(Drop)]
+#[derive(Clone, Copy)]
 pub enum TableAnswer {
     Frames(usize),
     Refused(u8),
 }
 
 // What is to be done: how many records are written, all or none; where the frames start, and how they are read; the answer.
-#[derive(Drop)]
+#[derive(Clone, Copy)]
 struct Plan {
     writes: usize,
     start: usize,

@@ -1,5 +1,7 @@
 // The numbers returned on refusal, as document 01's table and the requests of document 02 have them. specs/Refusal.antt gives the same names.
 
+#![tactic(auto)]
+
 // The longest file, 64 MiB.
 pub const LIMIT: usize = 67108864;
 

@@ -1,4 +1,5 @@
 // trace.dat, version 6: the summary of a file's header, and where a CPU's data stands.
+#![tactic(auto)]
 ghost use Rattle.std.specs.Prelude.{◌≡◌};
 ghost use Rattle.tracedat.specs.Questions.{summary_meaning, summed, range_meaning, cpu_range};
 
@@ -7,7 +8,7 @@ use dat_read::summary::{EndingKind, Summary};
 use dat_walk::Walked;
 use refusals::{BAD_RANGE, LIMIT, NOT_FOUND, RANGES_OVERLAP, TOO_LONG};
 
-#[derive(Drop)]
+#[derive(Clone, Copy)]
 pub enum SummaryAnswer {
     Accepted(Summary),
     Refused(u8),
@@ -47,7 +48,7 @@ pub fn summary(file: &[u8]) -> SummaryAnswer
     }
 }
 
-#[derive(Drop)]
+#[derive(Clone, Copy)]
 pub enum RangeAnswer {
     Range { offset: u64, size: u64 },
     Refused(u8),
