@@ -1,5 +1,6 @@
 // The data of a frame: what block stands at a place, and whether blocks fill the data.
 #![tactic(auto)]
+
 ghost use Rattle.std.specs.Prelude.{◌≡◌, ◌+◌, ◌<◌, false, length, drop};
 ghost use Rattle.refusals.specs.Refusal.{block_past_data};
 ghost use Rattle.fields.specs.Reader.{bytes, step_at, pass_at};

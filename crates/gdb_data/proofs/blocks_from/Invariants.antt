@@ -1,0 +1,12 @@
+-- What is left, after what was seen, is filled just where the whole is.
+use Rattle.std.proofs.Common.{◌≡◌, ◌-◌, false, length, drop}
+use Rattle.gdb_format.specs.Opening.{size_meaning}
+use Rattle.gdb_data.specs.Blocks.{blocks_fill}
+use Rattle.gdb_data.proofs.blocks_from.Given as goal
+
+abbrev pub invariant-loop-n : goal.invariant-loop-n
+invariant-loop-n l =
+    blocks_fill l.format (size_meaning l.size) l.seen (drop l.at l.d) ≡ blocks_fill l.format (size_meaning l.size) false (drop l.from l.d)
+
+abbrev pub decreases-loop-n : goal.decreases-loop-n
+decreases-loop-n l = length l.d - l.at
