@@ -8,7 +8,7 @@ ghost use Rattle.gdb_format.specs.Trace.{mark, put_mark};
 ghost use Rattle.gdb_format.specs.Opening.{size_meaning};
 ghost use Rattle.gdb_format.specs.declared.Format.{Format};
 ghost use Rattle.gdb_format.specs.Decode.{frame_head, frame, decode};
-ghost use Rattle.gdb_format.specs.Decode.{read as fileRead};
+ghost use Rattle.gdb_format.specs.Decode.{read as file_read};
 ghost use Rattle.gdb_read.specs.Steps.{frame_meaning, head_seen, frame_seen, frames_meaning, frames_counted, reading_meaning, summary_in, read_seen};
 
 use fields::Order;
@@ -224,7 +224,7 @@ fn read_as(format: Format, file: &[u8]) -> Reading
 
 // The whole file, read under the caller's settings.
 pub fn read(settings: Settings, file: &[u8]) -> Reading
-    ensures { reading_meaning result ≡ read_seen (fileRead settings file.now) }
+    ensures { reading_meaning result ≡ read_seen (file_read settings file.now) }
 {
     match gdb_format::format_of(settings) {
         Checked::Refused(n) => Reading::Refused(n),
