@@ -1,0 +1,16 @@
+-- The part that the place names is handed back.
+use Rattle.std.proofs.Common.{ap, ◌∙◌, rules, arith, refl, sym, ◌≡◌, [], ◌∷◌, ◌++◌, ◌+◌, ◌-◌, ◌*◌, ◌<◌, ◌≤◌, get_or, length, take, drop, ℕ, Bool, true, false, List, cond, subst}
+use Rattle.fields.specs.Given.{bytes-given}
+use Rattle.fields.specs.Answer.{accepted, next}
+use Rattle.gdb_frames.specs.Places.{part_named}
+use Rattle.gdb_frames.specs.Questions.{asked, line_place}
+use Rattle.gdb_frames.specs.PlaceLaws.{handed, line-in_file}
+use Rattle.gdb_frames.specs.Located.{line-place_of}
+use Rattle.gdb_frames.proofs.line.Goals as goal
+
+pub returns-in-Line : goal.returns-in-Line
+returns-in-Line c =
+    handed c.args.file.now c.part_of.result.now (asked c.args.settings c.args.file.now (line_place c.args.j))
+    (line-in_file c.args.settings c.args.file.now c.args.j (bytes-given c.args.file.now c.type_inv.file))
+    (c.part_of.ensures ∙ ap (λ x. part_named c.args.file.now (next x (λ r. accepted r.1))) c.in-Line.ensures
+    ∙ ap (part_named c.args.file.now) (line-place_of c.args.settings c.args.file.now c.args.j))
