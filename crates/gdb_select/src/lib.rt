@@ -1,5 +1,6 @@
 // Selections of frames by their tracepoint numbers.
 #![tactic(auto)]
+
 ghost use Rattle.std.specs.Prelude.{◌≡◌, length, take};
 ghost use Rattle.gdb_select.specs.Selection.{in_some, selects, meaning, valid, against};
 
