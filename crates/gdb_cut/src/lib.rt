@@ -74,7 +74,7 @@ fn write_cut(
     requires { (start ≤ length file.now) × Heads format (drop start file.now) × (cut_length format start file.now selection ≤ length out.old) }
     ensures { Wrote format start file.now selection out.old result out.new }
 {
-    bytes::copy(&file[..start], out);
+    byte_runs::copy(&file[..start], out);
     let mut len = start;
     let mut at = start;
     loop {
@@ -87,7 +87,7 @@ fn write_cut(
             }
             FrameStep::Frame { head, next } => {
                 if gdb_select::is_selected(selection, head.tracepoint) {
-                    bytes::copy(&file[at..next], &mut out[len..]);
+                    byte_runs::copy(&file[at..next], &mut out[len..]);
                     len += next - at;
                 }
                 at = next;
@@ -115,7 +115,7 @@ pub fn cut(settings: Settings, file: &[u8], selection: Selection, out: &mut [u8]
                 return EditAnswer::Refused(NO_ROOM);
             }
             let len = write_cut(format, body, selection, start, out);
-            EditAnswer::Written(len + bytes::copy(&file[end..], &mut out[len..]))
+            EditAnswer::Written(len + byte_runs::copy(&file[end..], &mut out[len..]))
         }
     }
 }

@@ -51,7 +51,7 @@ pub fn joinable(settings: Settings, first: &[u8], second: &[u8]) -> Pair
             Reading::Accepted(b) => {
                 let i = a.start;
                 let j = b.start;
-                if !check::same(&first[..i], &second[..j]) {
+                if !byte_runs::same(&first[..i], &second[..j]) {
                     return Pair::Refused(OPENINGS_DIFFER);
                 }
                 if LIMIT < joined_length(a, b) {
@@ -72,7 +72,7 @@ fn put_mark(marked: bool, out: &mut [u8]) -> usize
     ensures { Overwritten (put_mark marked) out.old result out.new }
 {
     if marked {
-        return bytes::copy(&[0, 0, 0, 0], out);
+        return byte_runs::copy(&[0, 0, 0, 0], out);
     }
     0
 }
@@ -82,8 +82,8 @@ fn write_join(first: &[u8], second: &[u8], marked: bool, out: &mut [u8]) -> usiz
     requires { length first.now + length second.now + length (put_mark marked) ≤ length out.old }
     ensures { Overwritten ((first.now ++ second.now) ++ put_mark marked) out.old result out.new }
 {
-    let one = bytes::copy(first, out);
-    let both = one + bytes::copy(second, &mut out[one..]);
+    let one = byte_runs::copy(first, out);
+    let both = one + byte_runs::copy(second, &mut out[one..]);
     both + put_mark(marked, &mut out[both..])
 }
 

@@ -165,7 +165,7 @@ fn put_refusal(n: u8, out: &mut [u8]) -> ListingAnswer
     if out.len() < 8 + digit_count(n as usize) + 1 {
         return ListingAnswer::NoRoom;
     }
-    let a = bytes::copy(b"refused ", out);
+    let a = byte_runs::copy(b"refused ", out);
     ListingAnswer::Written(put_ended(out, a, n as usize, b'\n'))
 }
 
@@ -182,7 +182,7 @@ fn put_table(
     if out.len() < 7 + digit_count(frames) + 1 + lines_length(format, file, start, frames) {
         return ListingAnswer::NoRoom;
     }
-    let a = bytes::copy(b"frames ", out);
+    let a = byte_runs::copy(b"frames ", out);
     let b = put_ended(out, a, frames, b'\n');
     ListingAnswer::Written(put_lines(format, file, start, frames, out, b))
 }
