@@ -1,5 +1,6 @@
 // Which long sizes and page sizes a trace.dat header may state.
 #![tactic(auto)]
+
 ghost use Rattle.std.specs.Prelude.{◌≡◌};
 ghost use Rattle.dat_format.specs.Tests.{is_long, is_page};
 
