@@ -1,4 +1,5 @@
 // What a header's summary holds, and the pieces that a header is made of.
 #![tactic(auto)]
+
 pub mod pieces;
 pub mod summary;
