@@ -1,5 +1,6 @@
 // What a trace.dat file asks of its CPU ranges.
 #![tactic(auto)]
+
 ghost use Rattle.std.specs.Prelude.{◌≡◌, ◌+◌, ◌*◌, ◌≤◌, true, ◌↔◌, length, nat_le};
 ghost use Rattle.dat_format.specs.Layout.{PageFits, Multiple};
 ghost use Rattle.dat_format.specs.Tests.{in_file, all, all_apart};
