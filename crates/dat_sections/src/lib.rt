@@ -1,5 +1,6 @@
 // The sections of a header: header page and header event, the ftrace formats, the event systems.
 #![tactic(auto)]
+
 ghost use Rattle.std.specs.Prelude.{◌≡◌, ◌≤◌, length};
 ghost use Rattle.fields.specs.Reader.{seen_at, pass_at};
 ghost use Rattle.dat_format.specs.Pieces.{after, sized, times, counted, name};

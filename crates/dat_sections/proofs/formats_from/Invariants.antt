@@ -1,0 +1,10 @@
+-- The formats left from `at` on end where the whole does.
+use Rattle.dat_format.specs.Pieces.{sized}
+use Rattle.dat_sections.proofs.ElementLaws.{Passing}
+use Rattle.dat_sections.proofs.formats_from.Given as goal
+
+abbrev pub invariant-loop-left : goal.invariant-loop-left
+invariant-loop-left l = Passing (sized l.order 8) l.s l.n l.from l.left l.at
+
+abbrev pub decreases-loop-left : goal.decreases-loop-left
+decreases-loop-left l = l.left
