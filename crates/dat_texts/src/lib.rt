@@ -1,5 +1,6 @@
 // The texts of a header: kallsyms, printk formats, process names; and the CPU count behind them.
 #![tactic(auto)]
+
 ghost use Rattle.std.specs.Prelude.{◌≡◌};
 ghost use Rattle.fields.specs.Reader.{seen_at};
 ghost use Rattle.dat_format.specs.Decode.{texts};
