@@ -1,5 +1,6 @@
 // The tail of a header: options, if there are any, and the ending with its CPU entries.
 #![tactic(auto)]
+
 ghost use Rattle.std.specs.Prelude.{◌≡◌, ◌≤◌, length};
 ghost use Rattle.fields.specs.Reader.{seen_at, pass_at};
 ghost use Rattle.dat_format.specs.Pieces.{times};
