@@ -1,5 +1,6 @@
 // Walking a trace.dat header front to back, without a look at its CPU ranges.
 #![tactic(auto)]
+
 mod opening;
 
 ghost use Rattle.std.specs.Prelude.{◌≡◌, length};
