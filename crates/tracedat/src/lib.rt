@@ -1,5 +1,6 @@
 // trace.dat, version 6: the summary of a file's header, and where a CPU's data stands.
 #![tactic(auto)]
+
 ghost use Rattle.std.specs.Prelude.{◌≡◌};
 ghost use Rattle.tracedat.specs.Questions.{summary_meaning, summed, range_meaning, cpu_range};
 
