@@ -1,5 +1,6 @@
 // The structs of the C interface about a trace.dat file: an answer is the refusal 0 and the values, or the refusal's number and zeros.
 #![tactic(auto)]
+
 ghost use Rattle.std.specs.Prelude.{◌≡◌};
 ghost use Rattle.tracedat.specs.Questions.{summary_meaning, range_meaning};
 ghost use Rattle.dat_flat.specs.Flat.{order_number, ending_number, flat_part, shown_summary, refused_summary, flat_summary, flat_range};
