@@ -1,5 +1,5 @@
 -- What is written grows by the frame that was met, where it is selected.
-use Rattle.std.proofs.Common.{arith, sym, ap, ◌∙◌, ◌≡◌, ◌-◌, ◌++◌, ℕ, List, length, take, drop, append_assoc, append-nil, length-append, length-drop, length-take}
+use Rattle.std.proofs.Common.{arith, sym, ap, ◌∙◌, ◌≡◌, ◌≤◌, ◌-◌, ◌++◌, ℕ, List, length, take, drop, append_assoc, append-nil, length-append, length-drop, length-take}
 use Rattle.std.proofs.Math.Seq.{length-take-le}
 use Rattle.fields.specs.Given.{bytes-given}
 use Rattle.fields.specs.Copies.{lengths, out_long, more_long, more_out}
@@ -34,7 +34,8 @@ slice_bounds-copy-start c =
     let w = l.invariant.2 in
     let n : length (take c.args.start c.args.file.now) ≡ c.args.start = length-take-le c.args.start c.args.file.now c.requires.0 in
     let t = lengths w c.args.out.now l.out l.len l.invariant.3 l.invariant.4 _ (take c.args.start c.args.file.now) _ l.invariant.5 in
-    omega (arith, t, n, out_long w c.args.out.now l.out l.len l.invariant.3 l.invariant.4 (omega (arith, t, n, c.requires.2)))
+    let o = out_long w c.args.out.now l.out l.len l.invariant.3 l.invariant.4 (omega (arith, t, n, c.requires.2)) in
+    omega (arith, t, n, o, c.requires.2)
 
 pub overflow_sub-len : goal.overflow_sub-len
 overflow_sub-len c =
