@@ -1,6 +1,7 @@
 // Frame n of a GDB trace by the parts of the file that show it: the opening, the heads of frames 0 to n, and the blocks of frame n. What stands
 // elsewhere is not read: such a frame costs what these parts cost, and is found in a file, too, that is at fault behind it or in an earlier frame's blocks.
 #![tactic(auto)]
+
 ghost use Rattle.std.specs.Prelude.{◌≡◌};
 ghost use Rattle.gdb_format.specs.Opening.{size_meaning};
 ghost use Rattle.gdb_read.specs.Steps.{frame_meaning};

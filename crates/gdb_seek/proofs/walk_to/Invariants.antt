@@ -1,0 +1,10 @@
+-- The walk goes on, and each head brings it nearer to the end.
+use Rattle.std.proofs.Common.{◌-◌, length}
+use Rattle.gdb_seek.specs.Turns.{Going}
+use Rattle.gdb_seek.proofs.walk_to.Given as goal
+
+abbrev pub invariant-loop-k : goal.invariant-loop-k
+invariant-loop-k l = Going l.format l.s l.from l.n l.at l.passed
+
+abbrev pub decreases-loop-k : goal.decreases-loop-k
+decreases-loop-k l = length l.s - l.at
