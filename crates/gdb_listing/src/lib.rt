@@ -1,5 +1,6 @@
 // A trace listed as text: the number of frames, and a line for each frame; or the refusal.
 #![tactic(auto)]
+
 ghost use Rattle.std.specs.Prelude.{◌≡◌, [], ◌∷◌, ◌+◌, ◌<◌, ◌≤◌, length};
 ghost use Rattle.fields.specs.Lists.{concat_map};
 ghost use Rattle.fields.specs.Answer.{accepted, refused};
@@ -159,13 +160,23 @@ fn lines_length(format: Format, file: &[u8], start: usize, frames: usize) -> usi
     len
 }
 
+// A word at the front.
+fn put_front(out: &mut [u8], word: &[u8]) -> usize
+    requires { length word.now ≤ length out.old }
+    ensures { Puts out.old 0 word.now result out.new }
+{
+    let end = word.len();
+    out[..end].copy_from_slice(word);
+    end
+}
+
 fn put_refusal(n: u8, out: &mut [u8]) -> ListingAnswer
     ensures { Lists (refused n) out.old result out.new }
 {
     if out.len() < 8 + digit_count(n as usize) + 1 {
         return ListingAnswer::NoRoom;
     }
-    let a = byte_runs::copy(b"refused ", out);
+    let a = put_front(out, b"refused ");
     ListingAnswer::Written(put_ended(out, a, n as usize, b'\n'))
 }
 
@@ -182,7 +193,7 @@ fn put_table(
     if out.len() < 7 + digit_count(frames) + 1 + lines_length(format, file, start, frames) {
         return ListingAnswer::NoRoom;
     }
-    let a = byte_runs::copy(b"frames ", out);
+    let a = put_front(out, b"frames ");
     let b = put_ended(out, a, frames, b'\n');
     ListingAnswer::Written(put_lines(format, file, start, frames, out, b))
 }
