@@ -1,5 +1,6 @@
 // The frame table of a GDB trace: one record per frame, in a list of records that the caller lends.
 #![tactic(auto)]
+
 ghost use Rattle.std.specs.Prelude.{◌≡◌};
 ghost use Rattle.gdb_read.specs.Steps.{head_meaning};
 ghost use Rattle.fields.specs.Output.{Lent};
@@ -165,7 +166,7 @@ fn refusal(n: u8) -> Plan
     }
 }
 
-// Everything is decided here: `table` has no branch, since its code is proved by hand.
+// Everything is decided here: `table` has no branch.
 fn planned(settings: Settings, file: &[u8], room: usize) -> Plan
     ensures { Planned settings file.now room result }
 {
