@@ -1,5 +1,6 @@
 // Cutting GDB traces into an output that the caller lends.
 #![tactic(auto)]
+
 ghost use Rattle.std.specs.Prelude.{◌≡◌, ◌+◌, ◌≤◌, leb, length, drop};
 ghost use Rattle.fields.specs.Output.{Lent};
 ghost use Rattle.gdb_cut.specs.Cut.{cut_of, edit_meaning};

@@ -1,9 +1,9 @@
 -- What is written grows by the frame that was met, where it is selected.
-use Rattle.std.proofs.Common.{arith, sym, ap, ◌∙◌, ◌≡◌, ◌≤◌, ◌-◌, ◌++◌, ℕ, List, length, take, drop, append_assoc, append-nil, length-append, length-drop, length-take}
+use Rattle.std.proofs.Common.{arith, sym, ap, ◌∙◌, ◌≡◌, ◌≤◌, ◌-◌, ◌++◌, ℕ, List, length, take, drop, append_assoc, append-nil, length-drop, length-take}
 use Rattle.std.proofs.Math.Seq.{length-take-le}
 use Rattle.fields.specs.Given.{bytes-given}
 use Rattle.fields.specs.Copies.{lengths, out_long, more_long, more_out}
-use Rattle.byte_runs.specs.Copy.{count_all, written_all}
+use Rattle.byte_runs.specs.Copy.{written_all}
 use Rattle.gdb_select.specs.Selection.{meaning}
 use Rattle.gdb_cut.proofs.Walk.{passed, kept-end, heads_never, kept-yes, kept-no, part-long, length-yes}
 use Rattle.gdb_cut.proofs.write_cut.Goals as goal
@@ -30,12 +30,8 @@ slice_bounds-copy-count c =
 
 pub slice_bounds-copy-start : goal.slice_bounds-copy-start
 slice_bounds-copy-start c =
-    let l = c.loop-head in
-    let w = l.invariant.2 in
-    let n : length (take c.args.start c.args.file.now) ≡ c.args.start = length-take-le c.args.start c.args.file.now c.requires.0 in
-    let t = lengths w c.args.out.now l.out l.len l.invariant.3 l.invariant.4 _ (take c.args.start c.args.file.now) _ l.invariant.5 in
-    let o = out_long w c.args.out.now l.out l.len l.invariant.3 l.invariant.4 (omega (arith, t, n, c.requires.2)) in
-    omega (arith, t, n, o, c.requires.2)
+    let p = passed (bytes-given c.args.file.now c.type_inv.file) c.loop-head.invariant.1 c.in-Frame.ensures in
+    omega (arith, p.past)
 
 pub overflow_sub-len : goal.overflow_sub-len
 overflow_sub-len c =
