@@ -1,10 +1,11 @@
 // Lists the frames of a little-endian GDB trace from standard input on standard output.
 #![tactic(auto)]
+
 ghost use Rattle.std.specs.Prelude.{◌≡◌, ◌≤◌, length, take};
 ghost use Rattle.gdb_listing.specs.Text.{text, listed};
 
 use gdb_listing::ListingAnswer;
-use libc::{STDIN_FILENO, STDOUT_FILENO};
+use std::io;
 
 // The longest file that is listed, and one byte more, which tells that input goes on. The `ensures` keeps the prover from
 // counting the array's elements.
@@ -33,10 +34,10 @@ fn put_listing(file: &[u8], output: &mut [u8]) -> usize
     }
 }
 
-fn main() {
+fn main(rt: HostRuntime) -> io::Result<()> {
     let mut input = input_room();
-    let n = io::read_full(STDIN_FILENO, &mut input);
+    let n = input::read_full(&mut rt.stdin(), &mut input)?;
     let mut output = output_room();
     let k = put_listing(&input[..n], &mut output);
-    io::write_all(STDOUT_FILENO, &output[..k]);
+    rt.write_all(&output[..k])
 }

@@ -1,5 +1,6 @@
 // Memory of the largest length, 65,535, in a file of 65,561 bytes: too long for the table.
 use crate::{file, show, steps, table};
+use std::io;
 
 // A built file's bytes with 0s behind them.
 fn extended(bytes: [u8; 256]) -> [u8; 65561] {
@@ -13,21 +14,20 @@ fn extended(bytes: [u8; 256]) -> [u8; 65561] {
 }
 
 // The file's first `len` bytes, all 0 behind the pieces.
-fn memory(order: u8, pieces: &[u8], len: usize) {
+fn memory(rt: &impl Print, order: u8, pieces: &[u8], len: usize) -> io::Result<()> {
     let f = file::file_of(order, pieces);
     let bytes = f.bytes;
     let all = extended(bytes);
-    show::text(pieces);
-    show::number(b" and 0s up to byte ", len);
-    show::text(b":");
+    show::text(rt, pieces)?;
+    print!(rt; " and 0s up to byte {len}:")?;
     let settings = gdb_format::default_settings(order);
-    steps::summary(settings, table::part(&all, 0, len));
-    show::text(b"\n");
+    steps::summary(rt, settings, table::part(&all, 0, len))?;
+    println!(rt)
 }
 
 // The block ends with the frame's data and the file; then the data, and last the file, is one byte shorter.
-pub(crate) fn memories(order: u8) {
-    memory(order, b"+ H n w1 d65546 \"M\" q16 w65535", 65561);
-    memory(order, b"+ H n w1 d65545 \"M\" q16 w65535", 65560);
-    memory(order, b"+ H n w1 d65546 \"M\" q16 w65535", 65560);
+pub(crate) fn memories(rt: &impl Print, order: u8) -> io::Result<()> {
+    memory(rt, order, b"+ H n w1 d65546 \"M\" q16 w65535", 65561)?;
+    memory(rt, order, b"+ H n w1 d65545 \"M\" q16 w65535", 65560)?;
+    memory(rt, order, b"+ H n w1 d65546 \"M\" q16 w65535", 65560)
 }

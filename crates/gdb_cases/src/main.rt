@@ -15,6 +15,9 @@
 //   # NOTE
 // The questions stand in ask.rt and steps.rt. Marks between a row's numbers are for the reader.
 #![tactic(auto)]
+
+ghost use Rattle.std.specs.Prelude.{◌≡◌, length};
+
 mod ask;
 mod edit;
 mod file;
@@ -28,32 +31,45 @@ mod table;
 
 use file::File;
 use gdb_format::Settings;
+use std::io;
 
 // What a row asks.
-fn asked<'a>(settings: Settings, a: &'a [u8], b: &'a [u8], t: &[u8]) {
+fn asked<'a>(
+    rt: &impl Print,
+    settings: Settings,
+    a: &'a [u8],
+    b: &'a [u8],
+    t: &[u8],
+) -> io::Result<()> {
     match table::byte(t, 0) {
-        b'#' | b'=' | b'!' | b'&' => {}
+        b'#' | b'=' | b'!' | b'&' => Ok(()),
         b'*' => {
-            show::text(b":");
-            edit::called(settings, a, b, table::part(t, 2, t.len()));
+            print!(rt; ":")?;
+            edit::called(rt, settings, a, b, table::part(t, 2, t.len()))
         }
         _ => {
-            show::text(b":");
-            ask::question(settings, a, t);
+            print!(rt; ":")?;
+            ask::question(rt, settings, a, t)
         }
     }
 }
 
 // A row's answer about the files that stand now.
-fn answered(first: File, second: File, settings: Settings, t: &[u8]) {
+fn answered(
+    rt: &impl Print,
+    first: File,
+    second: File,
+    settings: Settings,
+    t: &[u8],
+) -> io::Result<()> {
     let one = first.bytes;
     let other = second.bytes;
     let a = table::part(&one, 0, first.len);
     let b = table::part(&other, 0, second.len);
-    asked(settings, a, b, t);
+    asked(rt, settings, a, b, t)
 }
 
-fn run(order: u8, t: &[u8]) {
+fn run(rt: &impl Print, order: u8, t: &[u8]) -> io::Result<()> {
     let mut first = file::empty();
     let mut second = file::empty();
     let mut given = gdb_format::default_settings(order);
@@ -61,30 +77,37 @@ fn run(order: u8, t: &[u8]) {
     while at < t.len() {
         let end = table::line_end(t, at);
         let row = table::part(t, at, end);
-        show::text(row);
-        first = row::first(first, order, row);
-        second = row::second(second, order, row);
+        show::text(rt, row)?;
+        first = row::first(rt, first, order, row)?;
+        second = row::second(rt, second, order, row)?;
         given = row::given(given, order, row);
-        answered(first, second, given, row);
-        show::text(b"\n");
+        answered(rt, first, second, given, row)?;
+        println!(rt)?;
         at = end;
         if end < t.len() {
             at = end + 1;
         }
     }
+    Ok(())
 }
 
 // The table in one byte order.
-fn tried(order: u8, t: &[u8]) {
-    show::number(b"order ", order as usize);
-    show::text(b"\n");
-    run(order, t);
-    large::memories(order);
+fn tried(rt: &impl Print, order: u8, t: &[u8]) -> io::Result<()> {
+    println!(rt; "order {order}")?;
+    run(rt, order, t)?;
+    large::memories(rt, order)
 }
 
-fn main() {
-    let mut buf = io::large_buffer();
-    let n = io::read_full(0, &mut buf);
-    tried(0, &buf[..n]);
-    tried(1, &buf[..n]);
+// Room for the table. The `ensures` keeps the prover from counting the array's elements.
+fn input_room() -> [u8; 65536]
+    ensures { 65536 ≡ length result }
+{
+    [0; 65536]
+}
+
+fn main(rt: HostRuntime) -> io::Result<()> {
+    let mut buf = input_room();
+    let n = input::read_full(&mut rt.stdin(), &mut buf)?;
+    tried(&rt, 0, &buf[..n])?;
+    tried(&rt, 1, &buf[..n])
 }

@@ -1,31 +1,32 @@
 // What a row gives: the first file, the second, and the settings of the calls. `order` is the run's.
 use crate::file::{File, ROOM};
-use crate::{file, show, table};
+use crate::{file, table};
 use gdb_format::Settings;
+use std::io;
 
 // The file of the row's pieces. One that finds no room is told at once.
-fn built(order: u8, t: &[u8]) -> File {
+fn built(rt: &impl Print, order: u8, t: &[u8]) -> io::Result<File> {
     let f = file::file_of(order, t);
     if ROOM < f.len {
-        show::text(b" no room");
+        print!(rt; " no room")?;
     }
-    f
+    Ok(f)
 }
 
 // The first file after the row, which was `f` before.
-pub(crate) fn first(f: File, order: u8, t: &[u8]) -> File {
+pub(crate) fn first(rt: &impl Print, f: File, order: u8, t: &[u8]) -> io::Result<File> {
     match table::byte(t, 0) {
-        b'=' | b'!' | b'+' | b'%' | b'?' => built(order, t),
-        _ => f,
+        b'=' | b'!' | b'+' | b'%' | b'?' => built(rt, order, t),
+        _ => Ok(f),
     }
 }
 
 // The second file, likewise.
-pub(crate) fn second(f: File, order: u8, t: &[u8]) -> File {
+pub(crate) fn second(rt: &impl Print, f: File, order: u8, t: &[u8]) -> io::Result<File> {
     if table::byte(t, 0) == b'&' {
-        return built(order, t);
+        return built(rt, order, t);
     }
-    f
+    Ok(f)
 }
 
 // The settings that are given: each first file states them anew.

@@ -1,6 +1,7 @@
 // The selection of a cut: read from a row, and printed.
-use crate::{show, table};
+use crate::table;
 use gdb_select::{Range, Selection};
+use std::io;
 
 // A range, and the place after its numbers.
 #[derive(Clone, Copy)]
@@ -42,25 +43,23 @@ pub(crate) fn stated(t: &[u8]) -> Selection {
     }
 }
 
-fn range(r: Range) {
-    show::number(b" ", r.low as usize);
-    show::number(b"..", r.high as usize);
+fn range(rt: &impl Print, r: Range) -> io::Result<()> {
+    print!(rt; " {}..{}", r.low, r.high)
 }
 
-fn counted(keep: bool, count: usize) {
+fn counted(rt: &impl Print, keep: bool, count: usize) -> io::Result<()> {
     if keep {
-        show::number(b" keep ", count);
+        print!(rt; " keep {count}")
     } else {
-        show::number(b" drop ", count);
+        print!(rt; " drop {count}")
     }
 }
 
 // All eight ranges, stated or not.
-pub(crate) fn shown(selection: Selection) {
-    counted(selection.keep, selection.count);
-    let mut k: usize = 0;
-    while k < 8 {
-        range(selection.ranges[k]);
-        k += 1;
+pub(crate) fn shown(rt: &impl Print, selection: Selection) -> io::Result<()> {
+    counted(rt, selection.keep, selection.count)?;
+    for r in &selection.ranges {
+        range(rt, *r)?;
     }
+    Ok(())
 }

@@ -4,108 +4,88 @@ use gdb_data::{BlockKind, BlockRecord};
 use gdb_format::LineKind;
 use gdb_frames::PlaceAnswer;
 use gdb_seek::FrameAnswer;
-use libc::STDOUT_FILENO;
+use std::io;
 
-pub(crate) fn text(t: &[u8]) {
-    io::write_all(STDOUT_FILENO, t);
+// Bytes of the table or of a file, as they are.
+pub(crate) fn text(rt: &impl Print, t: &[u8]) -> io::Result<()> {
+    rt.write_all(t)
 }
 
-// A word and a number.
-pub(crate) fn number(word: &[u8], n: usize) {
-    text(word);
-    io::print_decimal(STDOUT_FILENO, n as u64);
+pub(crate) fn refused(rt: &impl Print, n: u8) -> io::Result<()> {
+    print!(rt; " refused {n}")
 }
 
-pub(crate) fn refused(n: u8) {
-    number(b" refused ", n as usize);
+fn signed(rt: &impl Print, v: i64) -> io::Result<()> {
+    print!(rt; " value {v}")
 }
 
-// A signed value. The lowest has no opposite, so what is printed after the sign is one more than the turned bits.
-fn signed(v: i64) {
-    if v >= 0 {
-        number(b" value ", v as usize);
-    } else {
-        number(b" value -", (!v) as usize + 1);
-    }
-}
-
-pub(crate) fn value(answer: ValueAnswer) {
+pub(crate) fn value(rt: &impl Print, answer: ValueAnswer) -> io::Result<()> {
     match answer {
-        ValueAnswer::Value(v) => signed(v),
-        ValueAnswer::Refused(n) => refused(n),
+        ValueAnswer::Value(v) => signed(rt, v),
+        ValueAnswer::Refused(n) => refused(rt, n),
     }
-}
-
-fn byte(b: u8) {
-    text(b" ");
-    io::print_hex(STDOUT_FILENO, b as u64, 2);
 }
 
 // A part of the file, in brackets, so that an empty one shows.
-pub(crate) fn bytes(part: &[u8]) {
-    text(b" [");
-    let mut k: usize = 0;
-    while k < part.len() {
-        byte(part[k]);
-        k += 1;
+pub(crate) fn bytes(rt: &impl Print, part: &[u8]) -> io::Result<()> {
+    print!(rt; " [")?;
+    for b in part {
+        print!(rt; " {b:02x}")?;
     }
-    text(b" ]");
+    print!(rt; " ]")
 }
 
-pub(crate) fn span(place: usize, length: usize) {
-    number(b" place ", place);
-    number(b" length ", length);
+pub(crate) fn span(rt: &impl Print, place: usize, length: usize) -> io::Result<()> {
+    print!(rt; " place {place} length {length}")
 }
 
-pub(crate) fn place(answer: PlaceAnswer) {
+pub(crate) fn place(rt: &impl Print, answer: PlaceAnswer) -> io::Result<()> {
     match answer {
-        PlaceAnswer::At { place, length } => span(place, length),
-        PlaceAnswer::Refused(n) => refused(n),
+        PlaceAnswer::At { place, length } => span(rt, place, length),
+        PlaceAnswer::Refused(n) => refused(rt, n),
     }
 }
 
 // A frame's data, and how many heads were read for it.
-pub(crate) fn frame(answer: FrameAnswer) {
+pub(crate) fn frame(rt: &impl Print, answer: FrameAnswer) -> io::Result<()> {
     match answer {
         FrameAnswer::At {
             place,
             length,
             heads,
         } => {
-            span(place, length);
-            number(b" heads ", heads);
+            span(rt, place, length)?;
+            print!(rt; " heads {heads}")
         }
-        FrameAnswer::Refused(n) => refused(n),
+        FrameAnswer::Refused(n) => refused(rt, n),
     }
 }
 
-pub(crate) fn line_kind(kind: LineKind) {
+pub(crate) fn line_kind(rt: &impl Print, kind: LineKind) -> io::Result<()> {
     match kind {
-        LineKind::Registers => text(b" registers"),
-        LineKind::Status => text(b" status"),
-        LineKind::Tracepoint => text(b" tracepoint"),
-        LineKind::Variable => text(b" variable"),
-        LineKind::Target => text(b" target"),
-        LineKind::Other => text(b" other"),
+        LineKind::Registers => print!(rt; " registers"),
+        LineKind::Status => print!(rt; " status"),
+        LineKind::Tracepoint => print!(rt; " tracepoint"),
+        LineKind::Variable => print!(rt; " variable"),
+        LineKind::Target => print!(rt; " target"),
+        LineKind::Other => print!(rt; " other"),
     }
 }
 
-fn kind(kind: BlockKind) {
+fn kind(rt: &impl Print, kind: BlockKind) -> io::Result<()> {
     match kind {
-        BlockKind::Registers => text(b" registers"),
+        BlockKind::Registers => print!(rt; " registers"),
         BlockKind::Memory(span) => {
-            number(b" memory address ", span.address as usize);
-            number(b" length ", span.length);
+            print!(rt; " memory address {} length {}", span.address, span.length)
         }
-        BlockKind::Variable { number: n, value } => {
-            number(b" variable ", n as usize);
-            signed(value);
+        BlockKind::Variable { number, value } => {
+            print!(rt; " variable {number}")?;
+            signed(rt, value)
         }
     }
 }
 
-pub(crate) fn block(block: BlockRecord) {
-    number(b" place ", block.place);
-    let k = block.kind;
-    kind(k);
+pub(crate) fn block(rt: &impl Print, block: BlockRecord) -> io::Result<()> {
+    print!(rt; " place {}", block.place)?;
+    kind(rt, block.kind)
 }

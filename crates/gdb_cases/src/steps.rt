@@ -4,28 +4,29 @@ use crate::{show, table};
 use gdb_data::BlockStep;
 use gdb_format::{Checked, Format, RegisterSize, Settings};
 use gdb_read::{FrameHead, FrameStep, Opened, Reading};
+use std::io;
 
-fn size(size: RegisterSize) {
+fn size(rt: &impl Print, size: RegisterSize) -> io::Result<()> {
     match size {
-        RegisterSize::Unknown => show::text(b" no size"),
-        RegisterSize::Bytes(n) => show::number(b" size ", n),
+        RegisterSize::Unknown => print!(rt; " no size"),
+        RegisterSize::Bytes(n) => print!(rt; " size {n}"),
     }
 }
 
-fn opened(o: Opened) {
-    show::number(b" start ", o.start);
-    let stated = o.size;
-    size(stated);
-    show::number(b" frames ", o.frames);
+fn opened(rt: &impl Print, o: Opened) -> io::Result<()> {
+    print!(rt; " start {}", o.start)?;
+    size(rt, o.size)?;
+    print!(rt; " frames {}", o.frames)?;
     if o.marked {
-        show::text(b" marked");
+        print!(rt; " marked")?;
     }
+    Ok(())
 }
 
-pub(crate) fn summary(settings: Settings, file: &[u8]) {
+pub(crate) fn summary(rt: &impl Print, settings: Settings, file: &[u8]) -> io::Result<()> {
     match gdb_read::read(settings, file) {
-        Reading::Refused(n) => show::refused(n),
-        Reading::Accepted(o) => opened(o),
+        Reading::Refused(n) => show::refused(rt, n),
+        Reading::Accepted(o) => opened(rt, o),
     }
 }
 
@@ -37,66 +38,59 @@ fn size_of(n: Number) -> RegisterSize {
     RegisterSize::Unknown
 }
 
-fn block(step: BlockStep) {
+fn block(rt: &impl Print, step: BlockStep) -> io::Result<()> {
     match step {
-        BlockStep::End => {
-            show::text(b" end");
-        }
-        BlockStep::Refused(n) => {
-            show::refused(n);
-        }
+        BlockStep::End => print!(rt; " end"),
+        BlockStep::Refused(n) => show::refused(rt, n),
         BlockStep::Block {
             record: found,
             next,
         } => {
-            show::block(found);
-            show::number(b" next ", next);
+            show::block(rt, found)?;
+            print!(rt; " next {next}")
         }
     }
 }
 
-fn head(head: FrameHead) {
-    show::number(b" tracepoint ", head.tracepoint as usize);
-    show::number(b" place ", head.place);
-    show::number(b" size ", head.size);
+fn head(rt: &impl Print, head: FrameHead) -> io::Result<()> {
+    print!(rt;
+        " tracepoint {} place {} size {}",
+        head.tracepoint, head.place, head.size
+    )
 }
 
-fn frame(step: FrameStep) {
+fn frame(rt: &impl Print, step: FrameStep) -> io::Result<()> {
     match step {
-        FrameStep::End => {
-            show::text(b" end");
-        }
-        FrameStep::Refused(n) => {
-            show::refused(n);
-        }
+        FrameStep::End => print!(rt; " end"),
+        FrameStep::Refused(n) => show::refused(rt, n),
         FrameStep::Frame { head: found, next } => {
-            head(found);
-            show::number(b" next ", next);
+            head(rt, found)?;
+            print!(rt; " next {next}")
         }
     }
 }
 
 // What stands at a place: data AT SIZE, head AT, whole AT SIZE; without SIZE there is no R line.
-fn at(format: Format, s: &[u8], t: &[u8]) {
+fn at(rt: &impl Print, format: Format, s: &[u8], t: &[u8]) -> io::Result<()> {
     let place = table::number_after(t, 0);
     let size = size_of(table::number_after(t, place.next));
     let k = place.value as usize;
     match table::byte(t, 0) {
-        b'd' => block(gdb_data::block_at(format, size, s, k)),
-        b'h' => frame(gdb_read::head_at(format, s, k)),
-        b'w' => frame(gdb_read::frame_at(format, size, s, k)),
-        _ => show::text(b" no such question"),
+        b'd' => block(rt, gdb_data::block_at(format, size, s, k)),
+        b'h' => frame(rt, gdb_read::head_at(format, s, k)),
+        b'w' => frame(rt, gdb_read::frame_at(format, size, s, k)),
+        _ => print!(rt; " no such question"),
     }
 }
 
 // The questions: summary or +, of the whole file; ?, of the file as a line; and those about a place.
-pub(crate) fn question(settings: Settings, s: &[u8], t: &[u8]) {
+pub(crate) fn question(rt: &impl Print, settings: Settings, s: &[u8], t: &[u8]) -> io::Result<()> {
     match table::byte(t, 0) {
-        b'+' | b'%' | b's' => summary(settings, s),
-        b'?' => show::line_kind(gdb_format::line_kind(s)),
+        b'+' | b'%' | b's' => summary(rt, settings, s),
+        b'?' => show::line_kind(rt, gdb_format::line_kind(s)),
         _ => match gdb_format::format_of(settings) {
-            Checked::Known(format) => at(format, s, t),
-            Checked::Refused(n) => show::refused(n),
+            Checked::Known(format) => at(rt, format, s, t),
+            Checked::Refused(n) => show::refused(rt, n),
         },
     }
 }
