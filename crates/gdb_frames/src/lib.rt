@@ -1,5 +1,6 @@
 // Questions about the lines and frames of a GDB trace. Each takes any file and any arguments, and reads the whole file first. (The data of frame n: gdb_seek.)
 #![tactic(auto)]
+
 ghost use Rattle.std.specs.Prelude.{◌≡◌};
 ghost use Rattle.fields.specs.Answer.{accepted};
 ghost use Rattle.gdb_frames.specs.Places.{part_named};

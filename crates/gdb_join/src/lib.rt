@@ -1,5 +1,6 @@
 // Joining GDB traces into an output that the caller lends.
 #![tactic(auto)]
+
 ghost use Rattle.std.specs.Prelude.{◌≡◌, ◌||◌, ◌++◌, ◌+◌, ◌≤◌, length};
 ghost use Rattle.fields.specs.Copies.{Overwritten};
 ghost use Rattle.fields.specs.Output.{Lent};

@@ -1,5 +1,6 @@
 // Two GDB traces read as if they were joined, with no copy made.
 #![tactic(auto)]
+
 ghost use Rattle.std.specs.Prelude.{◌≡◌, take};
 ghost use Rattle.gdb_frames.specs.Nth.{nth_head};
 ghost use Rattle.gdb_frames.specs.Questions.{place_meaning};

@@ -1,5 +1,6 @@
 // Reading a GDB trace: what frame stands at a place, and the whole file.
 #![tactic(auto)]
+
 ghost use Rattle.std.specs.Prelude.{◌≡◌, ◌-◌, ◌<◌, ◌≤◌, length, take, drop};
 ghost use Rattle.fields.specs.Answer.{refused};
 ghost use Rattle.fields.specs.Word.{same_bytes};

@@ -1,5 +1,5 @@
 -- The part that the place names is handed back.
-use Rattle.std.proofs.Common.{ap, ◌∙◌, rules, arith, refl, sym, ◌≡◌, [], ◌∷◌, ◌++◌, ◌+◌, ◌-◌, ◌*◌, ◌<◌, ◌≤◌, get_or, length, take, drop, ℕ, Bool, true, false, List, cond, subst}
+use Rattle.std.proofs.Common.{ap, ◌∙◌}
 use Rattle.fields.specs.Given.{bytes-given}
 use Rattle.fields.specs.Answer.{accepted, next}
 use Rattle.gdb_frames.specs.Places.{part_named}

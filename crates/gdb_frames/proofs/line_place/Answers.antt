@@ -1,5 +1,5 @@
 -- The line that was found, or 12, of the file that was read.
-use Rattle.std.proofs.Common.{ap, ◌∙◌, rules, arith, refl, sym, ◌≡◌, [], ◌∷◌, ◌++◌, ◌+◌, ◌-◌, ◌*◌, ◌<◌, ◌≤◌, get_or, length, take, drop, ℕ, Bool, true, false, List, cond, subst}
+use Rattle.std.proofs.Common.{ap, ◌∙◌}
 use Rattle.fields.specs.Answer.{accepted}
 use Rattle.gdb_format.specs.Lines.{kind_of}
 use Rattle.gdb_read.specs.Steps.{opened_meaning}

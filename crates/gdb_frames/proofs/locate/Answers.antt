@@ -1,5 +1,5 @@
 -- The frame that the heads of the file that was read lead to.
-use Rattle.std.proofs.Common.{ap, take, ◌∙◌, rules, arith, refl, sym, ◌≡◌, [], ◌∷◌, ◌++◌, ◌+◌, ◌-◌, ◌*◌, ◌<◌, ◌≤◌, get_or, length, drop, ℕ, Bool, true, false, List, cond, subst}
+use Rattle.std.proofs.Common.{ap, ◌∙◌}
 use Rattle.gdb_read.specs.Steps.{opened_meaning}
 use Rattle.gdb_frames.specs.Nth.{nth_head}
 use Rattle.gdb_frames.specs.File.{WasRead, read-given}

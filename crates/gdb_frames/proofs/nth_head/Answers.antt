@@ -1,5 +1,5 @@
 -- A head more, or where the walk stops.
-use Rattle.std.proofs.Common.{arith, ◌∙◌, rules, refl, sym, ap, ◌≡◌, [], ◌∷◌, ◌++◌, ◌+◌, ◌-◌, ◌*◌, ◌<◌, ◌≤◌, get_or, length, take, drop, ℕ, Bool, true, false, List, cond, subst}
+use Rattle.std.proofs.Common.{arith, ◌∙◌, ap, ◌≡◌}
 use Rattle.gdb_format.specs.Decode.{frame_head}
 use Rattle.gdb_read.specs.Steps.{head_seen, head_meaning}
 use Rattle.gdb_frames.specs.Nth.{nth_head, nth-none, nth-fault, nth_on}

@@ -1,6 +1,6 @@
 -- A line more, or where the walk stops.
-use Rattle.std.proofs.Common.{arith, ◌∙◌, rules, refl, sym, ap, ◌≡◌, [], ◌∷◌, ◌++◌, ◌+◌, ◌-◌, ◌*◌, ◌<◌, ◌≤◌, get_or, length, take, drop, ℕ, Bool, true, false, List, cond, subst}
-use Rattle.gdb_frames.specs.Nth.{nth_line, line-none, line-here, line_last, line_on}
+use Rattle.std.proofs.Common.{arith, ◌∙◌}
+use Rattle.gdb_frames.specs.Nth.{line-none, line-here, line_last, line_on}
 use Rattle.gdb_frames.proofs.nth_line.Goals as goal
 
 pub returns-then-end-at : goal.returns-then-end-at

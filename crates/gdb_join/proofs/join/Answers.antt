@@ -1,5 +1,5 @@
 -- What is to be joined, and then the room.
-use Rattle.std.proofs.Common.{arith, sym, ap, ◌∙◌, ◌≡◌, ◌-◌, ◌++◌, ℕ, List, length, take, drop, length-drop}
+use Rattle.std.proofs.Common.{arith, sym, ap, ◌∙◌, ◌-◌, ◌++◌, ℕ, List, length, take, drop}
 use Rattle.std.proofs.Math.Seq.{length-take-le}
 use Rattle.fields.specs.Answer.{accepted}
 use Rattle.fields.specs.Output.{lent_written, lent-full, lent-refused}

@@ -1,5 +1,5 @@
 -- Both are read, the openings are compared, and the length is judged.
-use Rattle.std.proofs.Common.{arith, sym, ◌∙◌, ◌≡◌, take, length, refl, true, false, Bool, IsTrue}
+use Rattle.std.proofs.Common.{arith, sym, ◌≡◌, take, refl, true, false, Bool}
 use Rattle.std.proofs.Math.Seq.{length-take-le}
 use Rattle.fields.specs.Lists.{clash}
 use Rattle.gdb_read.specs.Steps.{opened_meaning}

@@ -1,5 +1,5 @@
 -- The head that stands there, and whether blocks fill its data.
-use Rattle.std.proofs.Common.{sym, rules, arith, refl, ap, ◌∙◌, ◌≡◌, [], ◌∷◌, ◌++◌, ◌+◌, ◌-◌, ◌*◌, ◌<◌, ◌≤◌, get_or, length, take, drop, ℕ, Bool, true, false, List, cond, subst}
+use Rattle.std.proofs.Common.{sym}
 use Rattle.fields.specs.Given.{bytes-given}
 use Rattle.fields.specs.At.{Turn, walk_more}
 use Rattle.gdb_format.specs.Opening.{size_meaning}
@@ -15,7 +15,7 @@ returns-in-Refused c = frame-fault c.args.format (size_meaning c.args.size) c.ar
 pub returns-in-Refused-blocks_from : goal.returns-in-Refused-blocks_from
 returns-in-Refused-blocks_from c =
     let t : Turn head_seen (frame_head c.args.format) c.args.s.now c.args.at (head_meaning c.in-Frame.head) c.in-Frame.next =
-        walk_more head_seen (frame_head c.args.format) (takes-head c.args.format) c.args.s.now c.args.at _ _ (sym c.in-Frame.ensures) in
+    walk_more head_seen (frame_head c.args.format) (takes-head c.args.format) c.args.s.now c.args.at _ _ (sym c.in-Frame.ensures) in
     frame_refused c.args.format (size_meaning c.args.size) c.args.s.now c.args.at (head_meaning c.in-Frame.head) c.in-Frame.next t
     (bytes-given c.args.s.now c.type_inv.s)
     c.in-Refused-blocks_from.n c.in-Refused-blocks_from.ensures
@@ -23,7 +23,7 @@ returns-in-Refused-blocks_from c =
 pub returns-in-Sound : goal.returns-in-Sound
 returns-in-Sound c =
     let t : Turn head_seen (frame_head c.args.format) c.args.s.now c.args.at (head_meaning c.in-Frame.head) c.in-Frame.next =
-        walk_more head_seen (frame_head c.args.format) (takes-head c.args.format) c.args.s.now c.args.at _ _ (sym c.in-Frame.ensures) in
+    walk_more head_seen (frame_head c.args.format) (takes-head c.args.format) c.args.s.now c.args.at _ _ (sym c.in-Frame.ensures) in
     frame-sound c.args.format (size_meaning c.args.size) c.args.s.now c.args.at (head_meaning c.in-Frame.head) c.in-Frame.next t
     (bytes-given c.args.s.now c.type_inv.s)
     c.in-Sound.ensures

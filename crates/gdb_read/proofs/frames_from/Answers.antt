@@ -1,7 +1,7 @@
 -- A frame more, the mark, the end or a fault, each as the definition counts.
-use Rattle.std.proofs.Common.{arith, sym, ◌∙◌, rules, refl, ap, ◌≡◌, [], ◌∷◌, ◌++◌, ◌+◌, ◌-◌, ◌*◌, ◌<◌, ◌≤◌, get_or, length, take, drop, ℕ, Bool, true, false, List, cond, subst}
+use Rattle.std.proofs.Common.{arith, sym, ◌∙◌}
 use Rattle.gdb_format.specs.Opening.{size_meaning}
-use Rattle.gdb_read.proofs.Walks.{count-starts, count_past, count-mark, count-end, count-refused, count_turn}
+use Rattle.gdb_read.proofs.Walks.{count_past, count-mark, count-end, count-refused, count_turn}
 use Rattle.gdb_read.proofs.frames_from.Goals as goal
 
 pub returns-then-s-from : goal.returns-then-s-from

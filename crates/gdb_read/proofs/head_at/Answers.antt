@@ -1,5 +1,5 @@
 -- The mark, data that run past the file, or a frame.
-use Rattle.std.proofs.Common.{arith, ◌∙◌, rules, refl, sym, ap, ◌≡◌, [], ◌∷◌, ◌++◌, ◌+◌, ◌-◌, ◌*◌, ◌<◌, ◌≤◌, get_or, length, take, drop, ℕ, Bool, true, false, List, cond, subst}
+use Rattle.std.proofs.Common.{arith, ◌∙◌}
 use Rattle.gdb_read.proofs.Frames.{Sized, head-zero, head-over, head-whole}
 use Rattle.gdb_read.proofs.head_at.Goals as goal
 

@@ -1,5 +1,5 @@
 -- The mark has four bytes.
-use Rattle.std.proofs.Common.{arith, rules, refl, sym, ap, ◌∙◌, ◌≡◌, [], ◌∷◌, ◌++◌, ◌+◌, ◌-◌, ◌*◌, ◌<◌, ◌≤◌, get_or, length, take, drop, ℕ, Bool, true, false, List, cond, subst}
+use Rattle.std.proofs.Common.{arith}
 use Rattle.gdb_read.proofs.Marks.{mark-other}
 use Rattle.gdb_read.proofs.mark_here.Goals as goal
 

@@ -1,5 +1,5 @@
 -- The settings' format, and the file read in it.
-use Rattle.std.proofs.Common.{◌∙◌, rules, arith, refl, sym, ap, ◌≡◌, [], ◌∷◌, ◌++◌, ◌+◌, ◌-◌, ◌*◌, ◌<◌, ◌≤◌, get_or, length, take, drop, ℕ, Bool, true, false, List, cond, subst}
+use Rattle.std.proofs.Common.{◌∙◌}
 use Rattle.gdb_read.proofs.Whole.{no-format, in_format}
 use Rattle.gdb_read.proofs.read.Goals as goal
 

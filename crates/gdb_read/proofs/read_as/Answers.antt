@@ -1,6 +1,5 @@
 -- The opening, and the frames behind it.
-use Rattle.std.proofs.Common.{arith, rules, refl, sym, ap, ◌∙◌, ◌≡◌, [], ◌∷◌, ◌++◌, ◌+◌, ◌-◌, ◌*◌, ◌<◌, ◌≤◌, get_or, length, take, drop, ℕ, Bool, true, false, List, cond, subst}
-use Rattle.fields.specs.Number.{Bytes}
+use Rattle.std.proofs.Common.{arith}
 use Rattle.fields.specs.Given.{bytes-given}
 use Rattle.gdb_format.specs.Opening.{size_meaning}
 use Rattle.gdb_read.proofs.Whole.{too_long_lem, bad-opening, bad-frames, Whole, all_read}
@@ -21,13 +20,13 @@ returns-in-Refused-frames_from c =
 pub returns-in-Frames : goal.returns-in-Frames
 returns-in-Frames c =
     let w : Whole c.args.format c.args.file.now (size_meaning c.in-Found.size) c.in-Found.end c.in-Frames.count c.in-Frames.marked =
-        all_read c.args.format c.args.file.now (omega arith) (bytes-given c.args.file.now c.type_inv.file)
-        c.in-Found.end (size_meaning c.in-Found.size) c.in-Found.ensures c.in-Frames.count c.in-Frames.marked c.in-Frames.ensures in
+    all_read c.args.format c.args.file.now (omega arith) (bytes-given c.args.file.now c.type_inv.file)
+    c.in-Found.end (size_meaning c.in-Found.size) c.in-Found.ensures c.in-Frames.count c.in-Frames.marked c.in-Frames.ensures in
     rw c.mark_length.ensures w.read
 
 pub overflow_sub-result : goal.overflow_sub-result
 overflow_sub-result c =
     let w : Whole c.args.format c.args.file.now (size_meaning c.in-Found.size) c.in-Found.end c.in-Frames.count c.in-Frames.marked =
-        all_read c.args.format c.args.file.now (omega arith) (bytes-given c.args.file.now c.type_inv.file)
-        c.in-Found.end (size_meaning c.in-Found.size) c.in-Found.ensures c.in-Frames.count c.in-Frames.marked c.in-Frames.ensures in
+    all_read c.args.format c.args.file.now (omega arith) (bytes-given c.args.file.now c.type_inv.file)
+    c.in-Found.end (size_meaning c.in-Found.size) c.in-Found.ensures c.in-Frames.count c.in-Frames.marked c.in-Frames.ensures in
     omega (arith, c.mark_length.ensures, w.within)

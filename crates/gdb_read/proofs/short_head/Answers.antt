@@ -1,5 +1,5 @@
 -- One byte, or two that are the mark's first or not.
-use Rattle.std.proofs.Common.{arith, rules, refl, sym, ap, ◌∙◌, ◌≡◌, [], ◌∷◌, ◌++◌, ◌+◌, ◌-◌, ◌*◌, ◌<◌, ◌≤◌, get_or, length, take, drop, ℕ, Bool, true, false, List, cond, subst}
+use Rattle.std.proofs.Common.{arith}
 use Rattle.gdb_read.proofs.Frames.{head-none, head-zero, head-short}
 use Rattle.gdb_read.proofs.short_head.Goals as goal
 
