@@ -28,6 +28,7 @@ pub fn selection_in(selection: Selection) -> gdb_select::Selection
     }
 }
 
+#[tactic(auto, unfolding(crate::specs::Flat::flat_selection))]
 pub fn flat_selection(selection: gdb_select::Selection) -> Selection
     ensures { result ≡ flat_selection selection }
 {
@@ -46,6 +47,7 @@ pub struct Length {
     pub length: usize,
 }
 
+#[tactic(auto, unfolding(crate::specs::Flat::flat_length))]
 pub fn flat_length(answer: EditAnswer) -> Length
     ensures { result ≡ flat_length (edit_meaning answer) }
 {
@@ -64,6 +66,7 @@ pub struct PairPart {
     pub length: usize,
 }
 
+#[tactic(auto, unfolding(crate::specs::Flat::flat_pair))]
 pub fn flat_pair(answer: PairPlace) -> PairPart
     ensures { result ≡ flat_pair (pair_place_meaning answer) }
 {

@@ -21,6 +21,7 @@ pub struct Count {
     pub count: usize,
 }
 
+#[tactic(auto, unfolding(crate::specs::Flat::flat_count))]
 pub fn flat_count(answer: CountAnswer) -> Count
     ensures { result ≡ flat_count (count_meaning answer) }
 {
@@ -30,6 +31,7 @@ pub fn flat_count(answer: CountAnswer) -> Count
     }
 }
 
+#[tactic(auto, unfolding(crate::specs::Flat::flat_count))]
 pub fn flat_table(answer: TableAnswer) -> Count
     ensures { result ≡ flat_count (table_meaning answer) }
 {
@@ -46,6 +48,7 @@ pub struct Mark {
     pub marked: u8,
 }
 
+#[tactic(auto, unfolding(crate::specs::Flat::flat_mark))]
 pub fn flat_mark(answer: MarkAnswer) -> Mark
     ensures { result ≡ flat_mark (mark_meaning answer) }
 {
@@ -85,6 +88,7 @@ pub struct Line {
     pub length: usize,
 }
 
+#[tactic(auto, unfolding(crate::specs::Flat::flat_line))]
 pub fn flat_line(answer: LineAnswer) -> Line
     ensures { result ≡ flat_line (line_meaning answer) }
 {
@@ -116,6 +120,7 @@ pub struct Place {
     pub length: usize,
 }
 
+#[tactic(auto, unfolding(crate::specs::Flat::flat_place))]
 pub fn flat_place(answer: PlaceAnswer) -> Place
     ensures { result ≡ flat_place (place_meaning answer) }
 {
@@ -142,6 +147,7 @@ pub struct FramePart {
     pub heads: usize,
 }
 
+#[tactic(auto, unfolding(crate::specs::Flat::flat_frame))]
 pub fn flat_frame(answer: FrameAnswer) -> FramePart
     ensures { result ≡ flat_frame (frame_answer_meaning answer) }
 {
@@ -213,6 +219,7 @@ fn shown_block(block: BlockRecord) -> Block
     }
 }
 
+#[tactic(auto, unfolding(crate::specs::Flat::flat_block))]
 pub fn flat_block(answer: BlockAnswer) -> Block
     ensures { result ≡ flat_block (block_meaning answer) }
 {
@@ -237,6 +244,7 @@ pub struct Value {
     pub value: i64,
 }
 
+#[tactic(auto, unfolding(crate::specs::Flat::flat_value))]
 pub fn flat_value(answer: ValueAnswer) -> Value
     ensures { result ≡ flat_value (value_meaning answer) }
 {
