@@ -7,7 +7,7 @@ use Rattle.fields.specs.Refuses.{Refuses, OneOf, refuses_never, refuses_cond, re
 use Rattle.gdb_format.specs.Numbers.{file_numbers, file-numbers}
 use Rattle.gdb_format.specs.declared.Settings.{Settings}
 use Rattle.gdb_frames.specs.Numbers.{question_numbers, frame_data-numbers}
-use Rattle.gdb_blocks.specs.Numbers.{variable_numbers}
+use Rattle.gdb_blocks.proofs.Numbers.{variable_numbers}
 use Rattle.gdb_join.specs.Numbers.{joinable_numbers, joined_numbers}
 use Rattle.gdb_pair.specs.Pair.{pair_place, pair_variable}
 

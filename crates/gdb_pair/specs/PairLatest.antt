@@ -7,7 +7,8 @@ use Rattle.fields.specs.Answer.{accepted, next, next_inv}
 use Rattle.gdb_format.specs.declared.Settings.{Settings}
 use Rattle.gdb_frames.specs.Questions.{asked}
 use Rattle.gdb_blocks.specs.Search.{variable_at}
-use Rattle.gdb_blocks.specs.LatestValue.{LatestValue, variable_exactly}
+use Rattle.gdb_blocks.specs.LatestValue.{LatestValue}
+use Rattle.gdb_blocks.proofs.LatestValue.{variable_exactly}
 use Rattle.gdb_join.specs.Join.{join_of}
 use Rattle.gdb_pair.specs.Pair.{pair_variable}
 

@@ -6,7 +6,6 @@ pub mod Numbers
 pub mod Openings
 pub mod Heads
 pub mod Judged
-pub mod Unread
 pub mod Stands
 pub mod Full
 pub mod FirstFault

@@ -12,7 +12,7 @@ use Rattle.gdb_format.specs.declared.Settings.{Settings}
 use Rattle.gdb_frames.specs.Questions.{asked, frame_count, end_mark, line_at}
 use Rattle.gdb_frames.specs.Numbers.{question_numbers, frame-count-numbers, end-mark-numbers, line-place-numbers}
 use Rattle.gdb_blocks.specs.Search.{block_at, registers_at, memory_at, variable_at}
-use Rattle.gdb_blocks.specs.Numbers.{block_record_numbers, registers-place-numbers, memory_place-numbers, variable_numbers}
+use Rattle.gdb_blocks.proofs.Numbers.{block_record_numbers, registers-place-numbers, memory_place-numbers, variable_numbers}
 use Rattle.gdb_seek.specs.Found.{frame_found}
 use Rattle.gdb_seek.specs.Numbers.{frame-place-numbers}
 use Rattle.gdb_table.specs.Records.{frame_table}

@@ -3,7 +3,7 @@ use Rattle.std.proofs.Common.{true, false, ◌∙◌, arith}
 use Rattle.gdb_format.specs.Opening.{size_meaning}
 use Rattle.gdb_data.specs.Blocks.{has_number}
 use Rattle.gdb_blocks.specs.SearchLaws.{Met, sought_met}
-use Rattle.gdb_blocks.specs.LatestLaws.{passed-all, passed-fault, keep_own, keep-other}
+use Rattle.gdb_blocks.proofs.LatestLaws.{passed-all, passed-fault, keep_own, keep-other}
 use Rattle.gdb_blocks.proofs.find_value.Goals as goal
 
 pub returns-in-End : goal.returns-in-End

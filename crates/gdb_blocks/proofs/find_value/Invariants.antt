@@ -1,7 +1,7 @@
 -- What was found so far is the value of the block whose place is kept.
 use Rattle.std.proofs.Common.{◌-◌, length}
 use Rattle.gdb_format.specs.Opening.{size_meaning}
-use Rattle.gdb_blocks.specs.LatestLaws.{Keeping}
+use Rattle.gdb_blocks.proofs.LatestLaws.{Keeping}
 use Rattle.gdb_blocks.proofs.find_value.Given as goal
 
 abbrev pub invariant-loop-n : goal.invariant-loop-n

@@ -5,7 +5,7 @@ use Rattle.gdb_read.specs.Steps.{head_meaning}
 use Rattle.gdb_blocks.specs.Latest.{latest}
 use Rattle.gdb_blocks.specs.Search.{value_in, values_found}
 use Rattle.gdb_blocks.specs.SearchLaws.{FrameFound, frame-given, frame_refused, search_told}
-use Rattle.gdb_blocks.specs.LatestLaws.{variable_anywhere}
+use Rattle.gdb_blocks.proofs.LatestLaws.{variable_anywhere}
 use Rattle.gdb_blocks.proofs.variable.Goals as goal
 
 pub returns-in-Refused : goal.returns-in-Refused

@@ -21,7 +21,8 @@ use Rattle.gdb_frames.specs.Places.{placed, frames_at}
 use Rattle.gdb_frames.specs.Questions.{asked}
 use Rattle.gdb_frames.specs.PlaceLaws.{placed_then}
 use Rattle.gdb_blocks.specs.Earliest.{or_later, earliest}
-use Rattle.gdb_blocks.specs.Latest.{latest, latest_then}
+use Rattle.gdb_blocks.specs.Latest.{latest}
+use Rattle.gdb_blocks.proofs.Latest.{latest_then}
 use Rattle.gdb_blocks.specs.Held.{value_of}
 use Rattle.gdb_blocks.specs.Search.{in_frame, variable_at, found, value_in, value_there}
 use Rattle.gdb_blocks.specs.SearchLaws.{Met, here_then}
