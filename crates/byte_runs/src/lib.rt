@@ -1,5 +1,6 @@
 // Runs of bytes: copied to the front of an output, and compared.
 #![tactic(auto)]
+
 ghost use Rattle.std.specs.Prelude.{◌≡◌, ◌++◌, ◌↔◌, IsTrue, length, take, drop, min};
 
 // Copies `src` to the front of `dst`, as much of it as there is room for, and answers how much.
@@ -7,7 +8,11 @@ pub fn copy(src: &[u8], dst: &mut [u8]) -> usize
     ensures count { result ≡ min (length src.now) (length dst.old) }
     ensures written { dst.new ≡ take result src.now ++ drop result dst.old }
 {
-    let n = if src.len() < dst.len() { src.len() } else { dst.len() };
+    let n = if src.len() < dst.len() {
+        src.len()
+    } else {
+        dst.len()
+    };
     let mut i = 0;
     while i < n {
         dst[i] = src[i];

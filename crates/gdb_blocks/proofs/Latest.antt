@@ -2,11 +2,11 @@
 -- Assumes nothing.
 use Rattle.std.specs.Prelude.{◌≡◌, ◌↔◌, List, [], ◌∷◌, ◌++◌, reverse}
 use Rattle.std.proofs.Common.{sym, ap, ◌∙◌, subst}
-use Rattle.std.proofs.Math.Option.{Option, none, some}
+use Rattle.std.proofs.Math.Option.{Option, none}
 use mathlib.Core.List.{reverse_aux, append_assoc, reverse-cons, reverse-append, reverse-reverse}
 use Rattle.refusals.specs.Refusal.{not_found}
 use Rattle.fields.specs.Lists.{Each}
-use Rattle.fields.specs.Answer.{Answer, accepted, refused}
+use Rattle.fields.specs.Answer.{accepted, refused}
 use Rattle.gdb_blocks.specs.Earliest.{or_later, earliest, Earliest, earliest-is, earliest-none}
 use Rattle.gdb_blocks.specs.Latest.{latest, Latest}
 

@@ -1,16 +1,15 @@
 -- C-13: the last variable block counts. Variable v in frame n is x exactly where, of the frame's blocks, a `V` block with the number v has the value x
 -- and no later block has that number.
 -- Assumes nothing.
-use Rattle.std.specs.Prelude.{◌≡◌, ℕ, Bool, true, false, cond, ◌↔◌, List, ◌∷◌, ◌++◌, ℤ, ◌==◌, ◌≢◌, refl}
+use Rattle.std.specs.Prelude.{◌≡◌, ℕ, Bool, true, false, cond, ◌↔◌, List, ◌∷◌, ◌++◌, ℤ, ◌==◌, refl}
 use Rattle.std.proofs.Common.{sym, ap, ap₂, ◌∙◌, eqb-true, eq-eqb}
 use Rattle.std.proofs.Math.Option.{Option, none, some, some-injective}
-use Rattle.fields.specs.Lists.{Each, each_map, clash}
+use Rattle.fields.specs.Lists.{each_map, clash}
 use Rattle.fields.specs.Answer.{accepted, next_inv}
 use Rattle.fields.specs.Element.{nth}
-use Rattle.gdb_format.specs.Trace.{Block, registers, memory, variable, Frame, Trace}
+use Rattle.gdb_format.specs.Trace.{Block, registers, memory, variable}
 use Rattle.gdb_format.specs.Decode.{read}
 use Rattle.gdb_format.specs.declared.Settings.{Settings}
-use Rattle.gdb_format.specs.declared.Format.{Format}
 use Rattle.gdb_frames.specs.Questions.{asked}
 use Rattle.gdb_blocks.specs.Latest.{Latest}
 use Rattle.gdb_blocks.proofs.Latest.{latest-is}

@@ -12,7 +12,7 @@ use Rattle.fields.specs.Answer.{Answer, accepted, refused, next, next_inv, accep
 use Rattle.fields.specs.Element.{nth, each-nth}
 use Rattle.gdb_format.specs.Trace.{Block, registers, memory, variable, Frame, Trace, opening, put_block, put_frame}
 use Rattle.gdb_format.specs.Lines.{register_size}
-use Rattle.gdb_format.specs.Layout.{BlockFits, FrameFits}
+use Rattle.gdb_format.specs.Layout.{BlockFits}
 use Rattle.gdb_format.specs.Decode.{read}
 use Rattle.gdb_format.specs.declared.Settings.{Settings}
 use Rattle.gdb_format.specs.declared.Format.{Format}
@@ -23,7 +23,7 @@ use Rattle.gdb_frames.specs.Questions.{asked, Handed}
 use Rattle.gdb_frames.specs.File.{file_of_lem}
 use Rattle.gdb_frames.specs.PlaceLaws.{placed-there, placed-is, data_behind}
 use Rattle.gdb_blocks.specs.Search.{registers_in, memory_in, nth_seen, block_at, registers_at, memory_at, variable_at}
-use Rattle.gdb_blocks.specs.Earliest.{earliest, Earliest, earliest-is, earliest-none, earliest-nth}
+use Rattle.gdb_blocks.specs.Earliest.{earliest, earliest-is, earliest-none, earliest-nth}
 use Rattle.gdb_blocks.specs.Latest.{latest}
 use Rattle.gdb_blocks.proofs.Latest.{latest-none}
 use Rattle.gdb_blocks.specs.Held.{registers_of, memory_of, value_of, held_in, Missing, block_held, mapped, named, with_length, or_empty}

@@ -1,13 +1,10 @@
 -- The latest of many: what `latest` finds, and what it means that it is the latest.
 -- Assumes nothing.
-use Rattle.std.specs.Prelude.{◌≡◌, ◌↔◌, List, [], ◌∷◌, ◌++◌, reverse}
-use Rattle.std.proofs.Common.{sym, ap, ◌∙◌, subst}
+use Rattle.std.specs.Prelude.{◌≡◌, List, ◌∷◌, ◌++◌, reverse}
 use Rattle.std.proofs.Math.Option.{Option, none, some}
-use mathlib.Core.List.{reverse_aux, append_assoc, reverse-cons, reverse-append, reverse-reverse}
-use Rattle.refusals.specs.Refusal.{not_found}
 use Rattle.fields.specs.Lists.{Each}
-use Rattle.fields.specs.Answer.{Answer, accepted, refused}
-use Rattle.gdb_blocks.specs.Earliest.{or_later, earliest, Earliest, earliest-is, earliest-none}
+use Rattle.fields.specs.Answer.{Answer}
+use Rattle.gdb_blocks.specs.Earliest.{earliest}
 
 -- what `g` finds in the latest element where it finds something, or 12: the earliest from the end
 abbrev pub latest : {A B : Type 0} → (A → Option B) → List A → Answer B

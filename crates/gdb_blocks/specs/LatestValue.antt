@@ -1,20 +1,14 @@
 -- C-13: the last variable block counts. Variable v in frame n is x exactly where, of the frame's blocks, a `V` block with the number v has the value x
 -- and no later block has that number.
 -- Assumes nothing.
-use Rattle.std.specs.Prelude.{◌≡◌, ℕ, Bool, true, false, cond, ◌↔◌, List, ◌∷◌, ◌++◌, ℤ, ◌==◌, ◌≢◌, refl}
-use Rattle.std.proofs.Common.{sym, ap, ap₂, ◌∙◌, eqb-true, eq-eqb}
-use Rattle.std.proofs.Math.Option.{Option, none, some, some-injective}
-use Rattle.fields.specs.Lists.{Each, each_map, clash}
-use Rattle.fields.specs.Answer.{accepted, next_inv}
+use Rattle.std.specs.Prelude.{◌≡◌, ℕ, List, ◌∷◌, ◌++◌, ℤ, ◌≢◌}
+use Rattle.fields.specs.Lists.{Each}
+use Rattle.fields.specs.Answer.{accepted}
 use Rattle.fields.specs.Element.{nth}
-use Rattle.gdb_format.specs.Trace.{Block, registers, memory, variable, Frame, Trace}
+use Rattle.gdb_format.specs.Trace.{Block, variable, Frame, Trace}
 use Rattle.gdb_format.specs.Decode.{read}
 use Rattle.gdb_format.specs.declared.Settings.{Settings}
 use Rattle.gdb_format.specs.declared.Format.{Format}
-use Rattle.gdb_frames.specs.Questions.{asked}
-use Rattle.gdb_blocks.specs.Latest.{Latest}
-use Rattle.gdb_blocks.specs.Held.{value_of}
-use Rattle.gdb_blocks.specs.Search.{variable_at}
 
 -- z is no `V` block with the number v
 abbrev pub OtherThan : ℕ → Block → Type 0

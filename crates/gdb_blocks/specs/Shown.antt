@@ -2,32 +2,21 @@
 -- early or late; at the place of a block's record stands the block. So it is for every file, frame and address, and for all settings: in both byte orders.
 -- A reader that starts a register block sixteen bytes late, and so shows v1 where v0 should be, answers against `registers_stand` and `piece_shown`.
 -- Assumes nothing.
-use Rattle.std.specs.Prelude.{◌≡◌, ℕ, ◌+◌, ◌≤◌, ◌↔◌, List, ◌++◌, length, take, drop, refl}
-use Rattle.std.proofs.Common.{sym, ap, ◌∙◌, arith, take_at}
-use Rattle.std.proofs.Math.Option.{Option, some}
-use Rattle.refusals.specs.Refusal.{not_found}
-use Rattle.fields.specs.Lists.{clash, piece-there}
+use Rattle.std.specs.Prelude.{◌≡◌, ℕ, ◌+◌, List, length, take, drop}
+use Rattle.std.proofs.Math.Option.{Option}
 use Rattle.fields.specs.Number.{Bytes}
-use Rattle.fields.specs.Answer.{Answer, accepted, refused, next, next_inv, accepted_inj}
+use Rattle.fields.specs.Answer.{accepted}
 use Rattle.fields.specs.Element.{nth, each-nth}
-use Rattle.gdb_format.specs.Trace.{Block, registers, memory, variable, Frame, Trace, opening, put_block, put_frame}
+use Rattle.gdb_format.specs.Trace.{Block, registers, memory, Frame, Trace, put_block}
 use Rattle.gdb_format.specs.Lines.{register_size}
-use Rattle.gdb_format.specs.Layout.{BlockFits, FrameFits}
+use Rattle.gdb_format.specs.Layout.{FrameFits}
 use Rattle.gdb_format.specs.Decode.{read}
 use Rattle.gdb_format.specs.declared.Settings.{Settings}
 use Rattle.gdb_format.specs.declared.Format.{Format}
-use Rattle.gdb_data.specs.Blocks as carried
-use Rattle.gdb_data.specs.Blocks.{Carried, carried_by, block_seen}
-use Rattle.gdb_frames.specs.Places.{frames_at, blocks_at}
-use Rattle.gdb_frames.specs.Questions.{asked, Handed}
+use Rattle.gdb_data.specs.Blocks.{Carried, carried_by}
 use Rattle.gdb_frames.specs.File.{file_of_lem}
-use Rattle.gdb_frames.specs.PlaceLaws.{placed-there, placed-is, data_behind}
-use Rattle.gdb_blocks.specs.Search.{registers_in, memory_in, nth_seen, block_at, registers_at, memory_at, variable_at}
-use Rattle.gdb_blocks.specs.Earliest.{earliest, Earliest, earliest-is, earliest-none, earliest-nth}
-use Rattle.gdb_blocks.specs.Latest.{latest}
-use Rattle.gdb_blocks.specs.Held.{registers_of, memory_of, value_of, held_in, Missing, block_held, mapped, named, with_length, or_empty}
-use Rattle.gdb_blocks.specs.ShownLaws.{registers-named, registers-there, memory_named, memory_there, named-held, block_held_lem}
-use Rattle.gdb_blocks.specs.ShownLaws.{Misses, frame-missing, asked-mapped, refused_alike, part_same}
+use Rattle.gdb_blocks.specs.Earliest.{Earliest}
+use Rattle.gdb_blocks.specs.Held.{block_held}
 
 -- the k bytes from p on are those that `g` finds in the earliest block of frame n of the trace that was read
 pub record BytesShown (s : Settings) (b : List ℕ) (n : ℕ) (g : Block → Option (List ℕ)) (p k : ℕ) : Type 0 where

@@ -1,5 +1,6 @@
 // The GDB trace file: the reader's settings, and the opening (head and description). The format itself is in specs/.
 #![tactic(auto)]
+
 ghost use Rattle.std.specs.Prelude.{◌≡◌, [], ◌+◌, length, drop};
 ghost use Rattle.gdb_format.specs.Settings.{default_settings, radix, format_in, settings_of, format_meaning};
 ghost use Rattle.gdb_format.specs.Lines.{is_register, is_status, kind_of, most_digits, digit, size_of};

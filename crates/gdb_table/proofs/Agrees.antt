@@ -3,7 +3,7 @@
 -- registers of that frame stand at its place, right behind their letter and as many bytes as the R line says: whoever has the table and the R line needs no
 -- question more.
 -- Assumes nothing.
-use Rattle.std.specs.Prelude.{◌≡◌, refl, ◌⊎◌, ℕ, ◌+◌, List, map, length}
+use Rattle.std.specs.Prelude.{◌≡◌, refl, ℕ, ◌+◌, List, map, length}
 use Rattle.std.proofs.Common.{sym, ap, ◌∙◌, subst, inl, inr}
 use Rattle.std.proofs.Math.Option.{some}
 use Rattle.refusals.specs.Refusal.{not_found}

@@ -3,30 +3,10 @@
 -- registers of that frame stand at its place, right behind their letter and as many bytes as the R line says: whoever has the table and the R line needs no
 -- question more.
 -- Assumes nothing.
-use Rattle.std.specs.Prelude.{◌≡◌, refl, ◌⊎◌, ℕ, ◌+◌, List, map, length}
-use Rattle.std.proofs.Common.{sym, ap, ◌∙◌, subst, inl, inr}
-use Rattle.std.proofs.Math.Option.{some}
+use Rattle.std.specs.Prelude.{◌≡◌, ◌⊎◌, ℕ}
 use Rattle.refusals.specs.Refusal.{not_found}
-use Rattle.fields.specs.Lists.{clash}
-use Rattle.fields.specs.Number.{Bytes}
-use Rattle.fields.specs.Answer.{Answer, accepted, refused, next, next_inv, accepted-one, accepted_inj, never}
-use Rattle.fields.specs.Element.{nth, nth-map}
-use Rattle.gdb_format.specs.Trace.{Frame, Trace}
-use Rattle.gdb_format.specs.Lines.{register_size}
-use Rattle.gdb_format.specs.Decode.{read}
-use Rattle.gdb_format.specs.declared.Settings.{Settings}
-use Rattle.gdb_format.specs.declared.Format.{Format}
-use Rattle.gdb_read.specs.Steps.{Row, frame_seen}
-use Rattle.gdb_frames.specs.Places.{frames_at, blocks_at}
-use Rattle.gdb_data.specs.Blocks as carried
-use Rattle.gdb_frames.specs.Questions.{asked, frame_count, frame_row}
-use Rattle.gdb_blocks.specs.Earliest.{earliest, earliest-refused}
-use Rattle.gdb_blocks.specs.Held.{registers_of}
-use Rattle.gdb_blocks.specs.Search.{registers_in, block_at, registers_at}
-use Rattle.gdb_blocks.specs.Shown.{BytesShown}
+use Rattle.fields.specs.Answer.{Answer, accepted, refused}
 use Rattle.gdb_table.specs.declared.FrameRecord.{FrameRecord}
-use Rattle.gdb_table.specs.Records.{record_of, record_at, frame_table}
-use Rattle.gdb_table.specs.Planning.{records-length}
 
 -- the record r says of its frame's registers what the answer x says
 pub record Agrees (x : Answer (ℕ × ℕ)) (r : FrameRecord) : Type 0 where

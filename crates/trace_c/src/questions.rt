@@ -33,7 +33,6 @@ pub extern "C" fn tfk_end_mark(settings: Settings, file: &[u8]) -> Mark
     questions::flat_mark(gdb_frames::end_mark(settings, file))
 }
 
-// No branch here: a function over a lent list of structs is proved by a walk by hand.
 #[unsafe(no_mangle)]
 pub extern "C" fn tfk_frame_table(settings: Settings, file: &[u8], out: &mut [FrameRecord]) -> Count
     ensures { FlatLent flat_count (asked settings file.now frame_table) out.old result out.new }

@@ -1,5 +1,5 @@
 -- The first i bytes are copied, and what stood behind them stands.
-use Rattle.std.proofs.Common.{◌≡◌, ◌≤◌, ◌-◌, ◌++◌, length, take, drop}
+use Rattle.std.proofs.Common.{◌≡◌, ◌≤◌, ◌-◌, ◌++◌, take, drop}
 use Rattle.byte_runs.proofs.copy.Given as goal
 
 abbrev pub invariant-loop-i : goal.invariant-loop-i

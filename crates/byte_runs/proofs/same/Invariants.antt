@@ -1,5 +1,5 @@
 -- The bytes before i are the same.
-use Rattle.std.proofs.Common.{◌≡◌, ◌≤◌, ◌<◌, ◌-◌, ℕ, length, get_or}
+use Rattle.std.proofs.Common.{◌≡◌, ◌<◌, ◌-◌, ℕ, length, get_or}
 use Rattle.byte_runs.proofs.same.Given as goal
 
 abbrev pub invariant-loop-i : goal.invariant-loop-i

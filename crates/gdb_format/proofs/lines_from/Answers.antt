@@ -6,25 +6,25 @@ use Rattle.gdb_format.proofs.lines_from.Goals as goal
 pub returns-then-s-end : goal.returns-then-s-end
 returns-then-s-end c =
     let m : MetLine c.args.format c.args.s.now c.args.from c.loop-start.start c.line_end-end.result c.loop-start.seen =
-        record { walked = c.loop-start.invariant; inside = omega arith; ends = c.line_end-end.ensures } in
+    record { walked = c.loop-start.invariant; inside = omega arith; ends = c.line_end-end.ensures } in
     walk_none m c.if-s-end.true
 
 pub returns-then-end-start : goal.returns-then-end-start
 returns-then-end-start c =
     let m : MetLine c.args.format c.args.s.now c.args.from c.loop-start.start c.line_end-end.result c.loop-start.seen =
-        record { walked = c.loop-start.invariant; inside = omega arith; ends = c.line_end-end.ensures } in
+    record { walked = c.loop-start.invariant; inside = omega arith; ends = c.line_end-end.ensures } in
     walk_found m (omega arith) c.if-end-start.true
 
 pub returns-in-Refused : goal.returns-in-Refused
 returns-in-Refused c =
     let m : MetLine c.args.format c.args.s.now c.args.from c.loop-start.start c.line_end-end.result c.loop-start.seen =
-        record { walked = c.loop-start.invariant; inside = omega arith; ends = c.line_end-end.ensures } in
+    record { walked = c.loop-start.invariant; inside = omega arith; ends = c.line_end-end.ensures } in
     walk_fault m (omega arith) (omega arith) c.in-Refused.is c.line_step.ensures
 
 pub loop-start-preserved : goal.loop-start-preserved
 loop-start-preserved c =
     let m : MetLine c.args.format c.args.s.now c.args.from c.loop-start.start c.line_end-end.result c.loop-start.seen =
-        record { walked = c.loop-start.invariant; inside = omega arith; ends = c.line_end-end.ensures } in
+    record { walked = c.loop-start.invariant; inside = omega arith; ends = c.line_end-end.ensures } in
     walk_on m (omega arith) (omega arith) c.in-Next.is c.line_step.ensures
 
 pub returns : goal.returns
