@@ -70,6 +70,9 @@ MODULES = {
     'a vector': ('%b =', '%c = alloca <2 x i64>\n  %b =', 'core: <2 x '),
     'an exchange': ('%b =', '%p = alloca i64\n  %c = atomicrmw add ptr %p, i64 1 seq_cst\n  %b =', 'core: atomicrmw'),
     'data': ('define', '@data = global i64 1\ndefine', 'core: @data = global i64 1'),
+    'constant words': ('define', '@data = private unnamed_addr constant [2 x i16] [i16 1, i16 2], align 2\ndefine', 'core: @data = private unnamed_addr constant [2 x i16]'),
+    'bytes that are written': ('define', '@data = private unnamed_addr global [2 x i8] c"ab", align 1\ndefine', 'core: @data = private unnamed_addr global'),
+    'bytes that others see': ('define', '@data = constant [2 x i8] c"ab", align 1\ndefine', 'core: @data = constant'),
     'a function of elsewhere': ('define', 'declare i64 @other(i64)\ndefine', 'core: declare i64 @other(i64)'),
     'an instruction of x86-64': ('%b =', 'call void @llvm.x86.sse2.pause()\n  %b =', '@llvm.x86.sse2.pause()'),
     'another convention': ('define i64', 'define fastcc i64', 'core: fastcc'),
@@ -134,6 +137,12 @@ class Build(unittest.TestCase):
         run = self.build()
         self.assertEqual((run.returncode, run.stderr), (0, ''))
         self.assertEqual(self.made(), ['target/handset/lp64/libtufakpeni.a', 'target/handset/lp64d/libtufakpeni.a'])
+
+    def test_constant_bytes(self):
+        self.put_module(MODULE.replace('define', '@text = private unnamed_addr constant [2 x i8] c"ab", align 1\n'
+                                                 '@none = private unnamed_addr constant [3 x i8] zeroinitializer, align 1\ndefine'))
+        run = self.build()
+        self.assertEqual((run.returncode, run.stderr), (0, ''))
 
     def test_habits_of_the_kit(self):
         rt = (self.kit / 'bin/rt').read_text()
