@@ -2,7 +2,7 @@
  * Prints the mask register v0 in every frame of a little-endian trace. The board's register block has 776 bytes:
  * 33 general registers of 8, then v0 to v31 of 16. So v0 is bytes 264 to 279.
  *
- *     cc -std=c99 -Iinclude examples/v0.c target/staticlib/libtrace_c.a -o v0 && ./v0 samples/masks.tf
+ *     cc -std=c99 -Iinclude examples/v0.c crates/trace_c/out/libtrace_c.a -o v0 && ./v0 samples/masks.tf
  */
 #include <stdio.h>
 #include <stdlib.h>

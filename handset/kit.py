@@ -1,9 +1,7 @@
 """The kit that `rt` belongs to, and the one module that its compiler is given when `rt` builds a static library.
 
-`rt` finds the kit's folder by RATTLE_HOME. It is given a folder of links to the kit, in which one file is not the kit's: the compiler, which is
-watched there."""
-import os
-import platform
+`rt` finds the kit's folder by the place of its own file. So it is run from a folder of links to the kit, in which its own files are copies and one file
+is not the kit's: the compiler, which is watched there."""
 import shlex
 import shutil
 import subprocess
@@ -12,9 +10,16 @@ from pathlib import Path
 from typing import NamedTuple
 
 # What the kit asks of its compiler whatever the target is.
-EVERYWHERE = ('-ffunction-sections -fdata-sections -mllvm -trap-unreachable -mllvm -no-trap-after-noreturn '
+EVERYWHERE = ('-mllvm -no-trap-after-noreturn -ffunction-sections -fdata-sections -mllvm -trap-unreachable -mllvm -no-x86-call-frame-opt '
+              '-mllvm -disable-machine-licm -mllvm -disable-postra-machine-licm -mllvm -sink-common-insts=false '
               '--no-default-config -no-canonical-prefixes -fintegrated-cc1 -fno-crash-diagnostics -Werror').split()
 COMPILE = '-c -x ir module.bc -o module.o'.split()
+# The processor that the library is built for, which every x86-64 is.
+PROCESSOR = '--cpu=x86-64'
+# What `rt` is made of, and the compiler, in the kit's folder.
+OWN = ('bin/rt', 'bin/rtlib.py')
+TOOLS = 'toolchain'
+CLANG = f'{TOOLS}/bin/clang'
 WATCHED = """#!/bin/sh
 # Stands for the kit's compiler: keeps its words and the files among them, and hands all on.
 call=$(mktemp -d {calls}/XXXXXX) || exit
@@ -41,15 +46,14 @@ class Kit:
         rt = shutil.which('rt')
         if rt is None:
             raise Stop('there is no command rt: the Rattle toolchain is not installed')
-        self.home = Path(os.environ.get('RATTLE_HOME') or Path(rt).resolve().parents[1]).absolute()
-        self.tools = Path('on', platform.machine(), 'toolchain')
-        self.clang = self.home / self.tools / 'bin/clang'
+        self.home = Path(rt).resolve().parents[1]
+        self.clang = self.home / CLANG
         if not self.clang.is_file():
             raise Stop(f'the kit has no compiler at {self.clang}')
 
     def call(self, home):
         """How the kit is known to call its compiler."""
-        return ['--target=x86_64-unknown-linux-gnu', '-march=x86-64', *EVERYWHERE, *COMPILE, '-fPIC', '-O3', f'--sysroot={home / self.tools}']
+        return ['--target=x86_64-unknown-linux-gnu', f'--sysroot={home / TOOLS}', '-march=x86-64', *EVERYWHERE, *COMPILE, '-fPIC', '-O3']
 
     def identity(self):
         return subprocess.run(['rt', 'version'], stdout=subprocess.PIPE, check=True).stdout
@@ -59,14 +63,16 @@ class Kit:
         with tempfile.TemporaryDirectory() as folder:
             home, calls = Path(folder, 'kit'), Path(folder, 'calls')
             calls.mkdir()
-            watched = self.tools / 'bin/clang'
-            link_beside(self.home, home, watched.parts)
-            put_program(home / watched, WATCHED.format(calls=shlex.quote(str(calls)), clang=shlex.quote(str(self.clang))))
-            run = subprocess.run(['rt', 'staticlib', crate], cwd=root, env={**os.environ, 'RATTLE_HOME': str(home)})
+            link_beside(self.home, home, {*OWN, CLANG})
+            for name in OWN:
+                shutil.copy(self.home / name, home / name)
+            put_program(home / CLANG, WATCHED.format(calls=shlex.quote(str(calls)), clang=shlex.quote(str(self.clang))))
+            place = Path(root, 'crates', crate)
+            run = subprocess.run([home / 'bin/rt', 'lib', PROCESSOR], cwd=place)
             if run.returncode != 0:
-                raise Stop(f'rt staticlib {crate} ended with {run.returncode}')
+                raise Stop(f'rt lib {PROCESSOR} in crates/{crate} ended with {run.returncode}')
             module = sole_module(sorted(calls.iterdir()), self.call(home))
-            return Proved(module, Path(root, f'target/staticlib/lib{crate}.a').read_bytes())
+            return Proved(module, Path(place, f'out/lib{crate}.a').read_bytes())
 
     def object_of(self, module, words, passed_over=()):
         """The object that the compiler makes of a module by these words; it may say no other lines than those that are passed over."""
@@ -104,14 +110,18 @@ class Kit:
             shutil.copyfile(Path(folder, 'libtufakpeni.a'), place)
 
 
-def link_beside(source, target, way):
-    """A folder of links to what is in the source, but for the first word of the way: there stands a folder of the same sort, and at the way's end nothing."""
+def link_beside(source, target, without):
+    """A folder of links to what is in the source, but for what stands at these places: there is nothing, and on the way to them are folders of the same sort."""
     target.mkdir()
+    below = {}
+    for place in without:
+        first, _, rest = place.partition('/')
+        below.setdefault(first, set()).add(rest)
     for entry in source.iterdir():
-        if entry.name != way[0]:
+        if entry.name not in below:
             (target / entry.name).symlink_to(entry)
-    if len(way) > 1:
-        link_beside(source / way[0], target / way[0], way[1:])
+        elif '' not in below[entry.name]:
+            link_beside(entry, target / entry.name, below[entry.name])
 
 
 def put_program(place, text):

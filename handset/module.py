@@ -9,7 +9,7 @@ LAYOUT = 'e-m:e-p270:32:32-p271:32:32-p272:64:64-i64:64-i128:128-f80:128-n8:16:3
 LAYOUT_RECORD = 3
 # A processor that is not RISC-V's is passed over; stack probes are a matter of each target's own.
 ATTRIBUTE = re.compile(r'"[^"]*"(?:="[^"]*")?')
-KNOWN_ATTRIBUTES = {'"probe-stack"="inline-asm"', '"target-cpu"="x86-64"'}
+KNOWN_ATTRIBUTES = {'"probe-stack"="inline-asm"', '"stack-probe-size"="3072"', '"target-cpu"="x86-64"'}
 QUOTED = re.compile(r'"[^"]*"')
 # Comments, names of places, values, functions, attributes' numbers and labels: they say nothing by themselves.
 NAMES = re.compile(r';.*|[%@#$][-\w.$"]*|^[-\w.$"]+:', re.M)
@@ -17,11 +17,11 @@ WORD = re.compile(r'(?<![\w.])!?[a-zA-Z_][\w.]*')
 # Operations, kinds, attributes and all else that a module is written in. Whole numbers of 64 bits at most.
 KNOWN_WORDS = set('add sub mul udiv sdiv urem srem shl lshr ashr and or xor icmp select phi trunc zext sext freeze extractvalue insertvalue '
                   'alloca load store getelementptr br switch ret call unreachable eq ne ult ule ugt uge slt sle sgt sge nuw nsw inbounds '
-                  'source_filename target datalayout triple define declare internal attributes void ptr i1 i8 i16 i32 i64 x to label true false '
-                  'align byval noundef zeroext nounwind nocallback nofree willreturn memory argmem readwrite readonly writeonly captures none immarg '
-                  '!llvm.ident !noundef !range'.split())
-# Vectors, stored data, names of elsewhere; a short struct that x86-64 has on its stack and RISC-V in registers.
-UNKNOWN = re.compile(r'<\d+ x |^@.*|^declare (?!.*@llvm\.mem(?:move|cpy|set)\.p0\.).*|byval\(\[(?:\d|1[0-6]) x i8\]\)', re.M)
+                  'source_filename target datalayout triple define declare internal attributes void ptr null i1 i8 i16 i32 i64 x to label true false '
+                  'align byval noundef zeroext nounwind nocallback nofree willreturn memory argmem write readwrite readonly writeonly captures none immarg '
+                  'private unnamed_addr constant c zeroinitializer !llvm.ident !noundef !range'.split())
+# Vectors, stored data but for constant bytes, names of elsewhere; a short struct that x86-64 has on its stack and RISC-V in registers.
+UNKNOWN = re.compile(r'<\d+ x |^@(?!\S+ = private unnamed_addr constant \[\d+ x i8\] (?:c""|zeroinitializer), align 1$).*|^declare (?!.*@llvm\.mem(?:move|cpy|set)\.p0\.).*|byval\(\[(?:\d|1[0-6]) x i8\]\)', re.M)
 AS_TEXT = ['--target=x86_64-unknown-linux-gnu', '-S', '-emit-llvm', '-Xclang', '-disable-llvm-passes', *COMPILE[1:]]
 
 

@@ -1,4 +1,4 @@
-//! Links the library's static archive, which `rt staticlib trace_c` makes in the repository's root.
+//! Links the library's static archive, which `rt lib --cpu=x86-64` makes in crates/trace_c.
 //! `TUFAKPENI_ARCHIVE` names another one, by its whole path.
 use std::env;
 use std::path::{Path, PathBuf};
@@ -6,7 +6,7 @@ use std::path::{Path, PathBuf};
 fn archive() -> PathBuf {
     match env::var_os("TUFAKPENI_ARCHIVE") {
         Some(path) => PathBuf::from(path),
-        None => Path::new(env!("CARGO_MANIFEST_DIR")).join("../../target/staticlib/libtrace_c.a"),
+        None => Path::new(env!("CARGO_MANIFEST_DIR")).join("../../crates/trace_c/out/libtrace_c.a"),
     }
 }
 
@@ -16,7 +16,7 @@ fn main() {
     println!("cargo:rerun-if-changed={}", archive.display());
     let found = archive
         .canonicalize()
-        .unwrap_or_else(|e| panic!("{}: {e}; make it by `rt staticlib trace_c`", archive.display()));
+        .unwrap_or_else(|e| panic!("{}: {e}; make it by `rt lib --cpu=x86-64` in crates/trace_c", archive.display()));
     let name = found.file_name().expect("a file has a name").to_string_lossy();
     let folder = found.parent().expect("a file stands in a folder");
     println!("cargo:rustc-link-search=native={}", folder.display());

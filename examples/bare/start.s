@@ -17,7 +17,7 @@ _start:
     call stop
 
     .text
-# The library asks for memcpy, and the caller's compiler may ask for both. In assembly, since a compiler may make of such a loop a call
+# The library asks for both, and so may the caller's compiler. In assembly, since a compiler may make of such a loop a call
 # of the very function.
     .globl memcpy
 memcpy:

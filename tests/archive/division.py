@@ -11,7 +11,7 @@ import sys
 from pathlib import Path
 
 ROOT = Path(__file__).resolve().parents[2]
-ARCHIVE = Path(os.environ.get('TUFAKPENI_ARCHIVE') or ROOT / 'target/staticlib/libtrace_c.a')
+ARCHIVE = Path(os.environ.get('TUFAKPENI_ARCHIVE') or ROOT / 'crates/trace_c/out/libtrace_c.a')
 
 FUNCTION = re.compile(r'^[0-9a-f]+ <(.*)>:$')
 INSTRUCTION = re.compile(r'^ *[0-9a-f]+:\t(.*)$')

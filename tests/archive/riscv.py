@@ -2,7 +2,7 @@
 
     python3 tests/archive/riscv.py [ARCHIVE]
 
-prints the bytes of code and the deepest stack of each call, in bytes, without what memcpy takes. What cannot be told stops it, as for x86-64."""
+prints the bytes of code and the deepest stack of each call, in bytes, without what memset and memcpy take. What cannot be told stops it, as for x86-64."""
 import re
 import subprocess
 import sys

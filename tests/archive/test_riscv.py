@@ -70,10 +70,10 @@ class RiscV(KnownStacks, Made):
             with self.subTest(convention):
                 self.assertEqual(stored(archive), [])
 
-    def test_the_library_calls_one_function_of_elsewhere(self):
+    def test_the_library_calls_two_functions_of_elsewhere(self):
         for convention, archive in ARCHIVES.items():
             with self.subTest(convention):
-                self.assertEqual(called_outside(archive), {'memcpy'})
+                self.assertEqual(called_outside(archive), {'memcpy', 'memset'})
 
     def test_both_conventions_have_the_same_code(self):
         lp64, lp64d = map(code, ARCHIVES.values())

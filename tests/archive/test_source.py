@@ -4,8 +4,8 @@ import unittest
 
 from division import ROOT
 
-# What is no code: comments, imports and contracts of the proof's, bytes and texts.
-BESIDES = re.compile(r"//.*|^ghost use .*|⌜[^⌝]*⌝|b?'(?:\\.|[^'\\])'|\"(?:\\.|[^\"\\])*\"", re.M)
+# What is no code: comments, imports and clauses of contracts, bytes and texts. Braces in a clause hold no others.
+BESIDES = re.compile(r"//.*|^ghost use .*|\b(?:requires|ensures)\b\*?(?: \w+)? \{(?:[^{}]|\{[^{}]*\})*\}|b?'(?:\\.|[^'\\])'|\"(?:\\.|[^\"\\])*\"", re.M)
 DIVIDES = re.compile(r'[/%]=? *(\S*)|\b(?:\w*_)?(?:div|rem)(?:_\w*)?\(')
 BY_NUMBER = re.compile(r'[1-9][0-9_]*\b')
 
@@ -19,8 +19,9 @@ def divisions(text):
 
 def crates(name='trace_c'):
     """The crates of this repository that a crate is made of, itself among them."""
-    lines = (line.split(':') for line in (ROOT / 'crates.txt').read_text().splitlines() if not line.startswith('#'))
-    uses = {crate: used.split() for crate, used in lines}
+    lines = (line.partition('#')[0].partition(':') for line in (ROOT / 'crates.txt').read_text().splitlines())
+    # The name is the first word: a static library has another behind it.
+    uses = {crate.split()[0]: used.split() for crate, _, used in lines if crate.strip()}
     met, open_ = set(), [name]
     while open_:
         crate = open_.pop()
@@ -44,13 +45,14 @@ class Source(unittest.TestCase):
         self.assertEqual(list(divisions(wrong)), ['% page'])
 
     def test_others_are_noticed(self):
-        for text in ('offset % page == 0', 'a / b', 'a /b', 'a %= n;', 'x / (2)', 'x / 0', 'std::num::wrapping_rem_u64(a, b)', 'checked_div(a, b)', 'x % 8 / n'):
+        for text in ('offset % page == 0', 'a / b', 'a /b', 'a %= n;', 'x / (2)', 'x / 0', 'std::num::wrapping_rem_u64(a, b)', 'checked_div(a, b)', 'x % 8 / n',
+                     'fn f() -> u8\n    requires { a / b }\n    ensures low { g {x} a % b }\n{\n    a / b\n}'):
             with self.subTest(text):
                 self.assertEqual(len(list(divisions(text))), 1)
 
     def test_nothing_else_is(self):
         for text in ('x / 256 % 256', 'x %= 10;', "b'%' | b'/' => 1", '// a / b', 'let a = "a / b";', 'f(remaining)', 'removed(x)', 'x % 4_294_967_296',
-                     'ghost use Prim.Native.Nat.{_/_, _%_};', 'ensures { λ r. ⌜ r ≡ a / b ⌝ }'):
+                     'ghost use Prim.Native.Nat.{_/_, _%_};', 'ensures { result ≡ a / b }', 'requires low { (a % b ≡ 0) × Has {b} }', 'ensures* {\n    a / b\n}'):
             with self.subTest(text):
                 self.assertEqual(list(divisions(text)), [])
 

@@ -5,7 +5,7 @@ from pathlib import Path
 
 HERE = Path(__file__).resolve().parent
 ROOT = HERE.parents[1]
-NATIVE = Path(os.environ.get('TUFAKPENI_ARCHIVE') or ROOT / 'target/staticlib/libtrace_c.a')
+NATIVE = Path(os.environ.get('TUFAKPENI_ARCHIVE') or ROOT / 'crates/trace_c/out/libtrace_c.a')
 ARCHIVES = {convention: ROOT / f'target/handset/{convention}/libtufakpeni.a' for convention in ('lp64', 'lp64d')}
 EMULATE = HERE / 'emulate'
 WORDS = ['-std=c99', '-Wall', '-Wextra', '-Werror', '-pedantic', '-O1', '-g', f'-I{ROOT / "include"}', f'-I{ROOT / "tests/c"}']

@@ -9,7 +9,7 @@ from pathlib import Path
 
 ROOT = Path(__file__).resolve().parents[2]
 sys.path.insert(0, str(ROOT / 'handset'))
-from kit import Kit  # noqa: E402
+from kit import CLANG as COMPILER, Kit  # noqa: E402
 from module import LAYOUT, LAYOUT_RECORD, bits_of, record  # noqa: E402
 
 MODULE = f"""target datalayout = "{LAYOUT}"
@@ -21,19 +21,22 @@ define i64 @tfk_interface(i64 %a) #0 {{
 attributes #0 = {{ nounwind "probe-stack"="inline-asm" "target-cpu"="x86-64" }}
 """
 # As the kit's own: a module, one call of the compiler, an archive of its object.
-CALL = '"$tools/bin/clang" --target=x86_64-unknown-linux-gnu -march=x86-64 -ffunction-sections -fdata-sections -mllvm -trap-unreachable ' \
-       '-mllvm -no-trap-after-noreturn --no-default-config -no-canonical-prefixes -fintegrated-cc1 -fno-crash-diagnostics -Werror ' \
-       '-c -x ir module.bc -o module.o -fPIC -O3 --sysroot="$tools"'
+CALL = '"$tools/bin/clang" --target=x86_64-unknown-linux-gnu --sysroot="$tools" -march=x86-64 -mllvm -no-trap-after-noreturn ' \
+       '-ffunction-sections -fdata-sections -mllvm -trap-unreachable -mllvm -no-x86-call-frame-opt -mllvm -disable-machine-licm ' \
+       '-mllvm -disable-postra-machine-licm -mllvm -sink-common-insts=false --no-default-config -no-canonical-prefixes -fintegrated-cc1 ' \
+       '-fno-crash-diagnostics -Werror -c -x ir module.bc -o module.o -fPIC -O3'
 RT = f"""#!/bin/sh
 set -e
 if [ "$1" = version ]; then echo a kit; exit; fi
-echo asked >>asked
-mkdir -p target/staticlib
-archive=$PWD/target/staticlib/libtrace_c.a
-tools=$RATTLE_HOME/on/$(uname -m)/toolchain
+[ "$*" = 'lib --cpu=x86-64' ]
+mkdir -p out
+echo asked >>out/asked
+archive=$PWD/out/libtrace_c.a
+kit=$(cd "$(dirname "$(realpath "$0")")/.." && pwd)
+tools=$kit/toolchain
 cd "$(mktemp -d)"
 trap 'rm -r "$PWD"' EXIT
-cp "$RATTLE_HOME/module.bc" module.bc
+cp "$kit/module.bc" module.bc
 {CALL}
 rm -f "$archive"
 "$tools/bin/llvm-ar" rcsD "$archive" module.o
@@ -50,7 +53,7 @@ HABITS = {
     'another compiler': ('"$tools/bin/clang"', '"$tools/bin/other"', 'called its compiler 0 times'),
     'two objects': ('"$archive" module.o', '"$archive" module.o module.bc', 'not one object but these: module.o module.bc'),
     'an object of another module': ('\nrm -f', '\necho >>module.o\nrm -f', 'does not give the object of the kit\'s archive'),
-    'no proof': (CALL, 'exit 3', 'rt staticlib trace_c ended with 3'),
+    'no proof': (CALL, 'exit 3', 'rt lib --cpu=x86-64 in crates/trace_c ended with 3'),
     'no archive': ('"$tools/bin/llvm-ar"', ': ', 'libtrace_c.a'),
     'another kind of archive': ('\n"$tools/bin/llvm-ar"', '\ncp module.o "$archive"\n: ', 'the kit\'s archiver said: '),
     'no name of its own': ('echo a kit; exit', 'exit 4', 'status 4'),
@@ -67,6 +70,9 @@ MODULES = {
     'a vector': ('%b =', '%c = alloca <2 x i64>\n  %b =', 'core: <2 x '),
     'an exchange': ('%b =', '%p = alloca i64\n  %c = atomicrmw add ptr %p, i64 1 seq_cst\n  %b =', 'core: atomicrmw'),
     'data': ('define', '@data = global i64 1\ndefine', 'core: @data = global i64 1'),
+    'constant words': ('define', '@data = private unnamed_addr constant [2 x i16] [i16 1, i16 2], align 2\ndefine', 'core: @data = private unnamed_addr constant [2 x i16]'),
+    'bytes that are written': ('define', '@data = private unnamed_addr global [2 x i8] c"ab", align 1\ndefine', 'core: @data = private unnamed_addr global'),
+    'bytes that others see': ('define', '@data = constant [2 x i8] c"ab", align 1\ndefine', 'core: @data = constant'),
     'a function of elsewhere': ('define', 'declare i64 @other(i64)\ndefine', 'core: declare i64 @other(i64)'),
     'an instruction of x86-64': ('%b =', 'call void @llvm.x86.sse2.pause()\n  %b =', '@llvm.x86.sse2.pause()'),
     'another convention': ('define i64', 'define fastcc i64', 'core: fastcc'),
@@ -87,15 +93,16 @@ class Build(unittest.TestCase):
         self.root = Path(held.name, 'repository')
         self.kit = Path(held.name, 'kit')
         shutil.copytree(ROOT / 'handset', self.root / 'handset')
-        (self.root / 'crates').mkdir()
+        (self.root / 'crates/trace_c').mkdir(parents=True)
         (self.root / 'crates.txt').write_text('')
         clang = Kit().clang
-        self.bin = self.kit / Kit().tools / 'bin'
+        self.bin = (self.kit / COMPILER).parent
         self.bin.mkdir(parents=True)
         (self.bin / 'llvm-ar').symlink_to(clang)
         for name in ('clang', 'other'):
             self.put(self.bin / name, CLANG.format(clang))
         self.put(self.kit / 'bin/rt', RT)
+        self.put(self.kit / 'bin/rtlib.py', '')
         self.put_module(MODULE)
 
     def put(self, place, text):
@@ -115,7 +122,6 @@ class Build(unittest.TestCase):
 
     def build(self, *words):
         environment = {**os.environ, 'PATH': f'{self.kit / "bin"}:{os.environ["PATH"]}'}
-        environment.pop('RATTLE_HOME', None)
         return subprocess.run([self.root / 'handset/build', *words], cwd=self.root, env=environment, capture_output=True, text=True)
 
     def made(self):
@@ -131,6 +137,12 @@ class Build(unittest.TestCase):
         run = self.build()
         self.assertEqual((run.returncode, run.stderr), (0, ''))
         self.assertEqual(self.made(), ['target/handset/lp64/libtufakpeni.a', 'target/handset/lp64d/libtufakpeni.a'])
+
+    def test_constant_bytes(self):
+        self.put_module(MODULE.replace('define', '@text = private unnamed_addr constant [2 x i8] c"ab", align 1\n'
+                                                 '@none = private unnamed_addr constant [3 x i8] zeroinitializer, align 1\ndefine'))
+        run = self.build()
+        self.assertEqual((run.returncode, run.stderr), (0, ''))
 
     def test_habits_of_the_kit(self):
         rt = (self.kit / 'bin/rt').read_text()
@@ -188,7 +200,7 @@ class Build(unittest.TestCase):
         self.assertStops('the kit has no compiler at')
 
     def test_the_module_is_kept_as_long_as_no_source_changes(self):
-        asked = self.root / 'asked'
+        asked = self.root / 'crates/trace_c/out/asked'
         for times, source in enumerate(('one', 'two'), 1):
             self.put(self.root / 'crates/source', source)
             self.build()

@@ -4,4 +4,4 @@ from pathlib import Path
 
 from header import ROOT
 
-ARCHIVE = Path(os.environ.get('TUFAKPENI_ARCHIVE') or ROOT / 'target/staticlib/libtrace_c.a')
+ARCHIVE = Path(os.environ.get('TUFAKPENI_ARCHIVE') or ROOT / 'crates/trace_c/out/libtrace_c.a')

@@ -13,7 +13,7 @@ import header
 
 # What the tests of the declarations read.
 NEEDED = ('include', 'bindings', 'crates', 'tests/interface', 'tests/rust/src', 'tests/python')
-LEFT_OUT = shutil.ignore_patterns('specs', 'proofs', 'target', 'expected', '__pycache__')
+LEFT_OUT = shutil.ignore_patterns('specs', 'proofs', 'out', 'target', 'expected', '__pycache__')
 
 # How a struct stands in each language, and how a field stands in it.
 C = r'typedef struct \{{[^}}]*\}} {};', r'^    \w+ {};\n'

@@ -79,12 +79,12 @@ class Another(unittest.TestCase):
     def test_python(self):
         self.says(self.python(self.other, '-m', 'tufakpeni', SAMPLE), 2,
                   f'libtufakpeni.so has the interface of number {OTHER}',
-                  f'this module needs the interface of number {header.read().number}', 'rt staticlib trace_c')
+                  f'this module needs the interface of number {header.read().number}', 'cd crates/trace_c && rt lib')
 
     def test_python_without_a_number(self):
         self.says(self.python(self.older, '-m', 'tufakpeni', SAMPLE), 2,
                   'libtufakpeni.so has no number of its interface',
-                  f'this module needs the interface of number {header.read().number}', 'rt staticlib trace_c')
+                  f'this module needs the interface of number {header.read().number}', 'cd crates/trace_c && rt lib')
 
     def test_python_again(self):
         """A caller that goes on after the error gets it again."""

@@ -88,7 +88,7 @@ class Missing(Case):
     def test_error_says_how_to_make_it(self):
         ended = self.run_python('import tufakpeni; tufakpeni.Trace(b"")', TUFAKPENI_LIBRARY='/nowhere/lib.so')
         self.assertEqual(ended.returncode, 1)
-        for words in ('LibraryMissing', '/nowhere/lib.so is not there', 'rt staticlib trace_c', 'gcc -shared',
+        for words in ('LibraryMissing', '/nowhere/lib.so is not there', 'cd crates/trace_c && rt lib', 'gcc -shared',
                       'TUFAKPENI_LIBRARY'):
             self.assertIn(words, ended.stderr)
 

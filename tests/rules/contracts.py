@@ -6,24 +6,26 @@ from pathlib import Path
 
 ROOT = Path(__file__).resolve().parent.parent.parent
 
-HEAD = re.compile(r'^ *(pub(?:\(crate\))? )?(?:extern "C" )?fn (\w+)', re.M)
+HEAD = re.compile(r'^ *(pub(?:\(crate\))? )?(?:const |unsafe |extern "C" )*fn (\w+)', re.M)
+# Before a clause's brace: its word, and its name where it has one.
+CLAUSE = re.compile(r'\b(requires|ensures)\b\*?(?: +\w+)?\s*$')
 MODULE = re.compile(r'^(pub )?mod (\w+);', re.M)
 ENUM = re.compile(r'^pub(?:\(crate\))? enum (\w+) \{(.*?)^\}', re.M | re.S)
 COMMENT = re.compile(r'//.*')
 RETURNED = re.compile(r'->\s*(.*)$', re.S)
 LENT = re.compile(r"(\w+):\s*&(?:'\w+ )?mut\b")
-BOUND = re.compile(r'λ (\w+)\.')
+RESULT = re.compile(r'\bresult\b')
 
 
 @dataclass
 class Function:
-    """A function: its place, its parameters and result as written, and what its contract says."""
+    """A function: its place, its parameters and result as written, and the clauses of its contract."""
     place: str
     public: bool
     name: str
     signature: str
-    requires: str
-    ensures: str
+    requires: list
+    ensures: list
 
     def returned(self):
         """The type of its result."""
@@ -34,10 +36,13 @@ class Function:
         """The parameters that it may write to."""
         return LENT.findall(self.signature)
 
-    def result(self):
-        """The name that the contract has for the result."""
-        found = BOUND.search(self.ensures)
-        return found[1] if found else None
+    def promised(self):
+        """All that it promises, as one text."""
+        return '\n'.join(self.ensures)
+
+    def gives_result(self):
+        """Whether what it promises speaks of the result."""
+        return bool(RESULT.search(self.promised()))
 
 
 def braced(text, at):
@@ -55,17 +60,13 @@ def functions_in(text, place):
     text = COMMENT.sub('', text)
     for head in HEAD.finditer(text):
         at = text.index('{', head.end())
-        clauses, signature = {'requires': '', 'ensures': ''}, text[head.end():at]
-        # A brace behind a clause's word is the clause's; the next one opens the body.
-        while True:
-            word = signature.split()[-1]
-            if word not in clauses:
-                break
-            signature = signature[:signature.rindex(word)]
-            clauses[word], behind = braced(text, at)
+        clauses, signature = {'requires': [], 'ensures': []}, text[head.end():at]
+        # A brace behind a clause's word, or behind its name, is the clause's; another one opens the body.
+        while clause := CLAUSE.search(signature):
+            signature = signature[:clause.start()]
+            words, behind = braced(text, at)
+            clauses[clause[1]].append(words.strip())
             at = text.index('{', behind)
-            if not text[behind:at].strip():
-                break
             signature += text[behind:at]
         yield Function(place, head[1] == 'pub ', head[2], signature.strip(), clauses['requires'], clauses['ensures'])
 

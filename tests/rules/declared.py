@@ -1,4 +1,5 @@
 """What a file declares, by its language. A name that stands only in a comment is none."""
+import os
 import re
 from functools import lru_cache
 from pathlib import Path
@@ -16,6 +17,8 @@ LANGUAGES = {
 LANGUAGES = {name: (re.compile(comment, re.M | re.S if name == 'c' else re.M), [re.compile(p, re.M) for p in patterns])
              for name, (comment, patterns) in LANGUAGES.items()}
 SOURCES = ('crates', 'tests', 'bindings', 'examples', 'include')
+# What builds make beside the sources.
+MADE = ('out', 'target')
 
 
 def language_of(path):
@@ -45,7 +48,12 @@ def declared_in(path):
 
 
 def sources(root):
-    return sorted(p for folder in SOURCES for p in (root / folder).rglob('*') if p.is_file() and 'target' not in p.parts)
+    found_files = []
+    for folder in SOURCES:
+        for at, folders, names in os.walk(root / folder):
+            folders[:] = [name for name in folders if name not in MADE]
+            found_files += [Path(at, name) for name in names]
+    return sorted(found_files)
 
 
 def elsewhere(root, name, file):

@@ -142,8 +142,8 @@ class Spoiled(unittest.TestCase):
 
     def test_a_name_that_moved(self):
         line, name, path = self.citation('/Trace.antt')
-        self.change(line, f'`{name}`', '`cutOf`')
-        self.one(f'{RULES}:{line}: `cutOf` is not declared in {path}; it is declared in crates/')
+        self.change(line, f'`{name}`', '`cut_of`')
+        self.one(f'{RULES}:{line}: `cut_of` is not declared in {path}; it is declared in crates/')
 
     def test_a_function_that_is_gone(self):
         line, name, path = self.citation('.rt')

@@ -5,7 +5,8 @@ import unittest
 from contracts import ROOT, enums, fields_of, functions_in, public_functions
 
 FUNCTIONS = public_functions()
-PROMISE = re.compile(r'⌜ (\S+)')
+# What the programs read by: what comes from outside, and when reading fails, no equation can say.
+READING = 'crates/input/src/lib.rt'
 # An answer is an enum with a refusal or with values; one without, as a line's kind, is its own meaning.
 ANSWER = re.compile(r'[({]|Refused')
 
@@ -26,23 +27,23 @@ class Contracts(unittest.TestCase):
         self.each(lambda f: not f.requires, 'a requires')
 
     def test_every_contract_gives_the_result(self):
-        self.each(lambda f: f.result() and re.search(rf'\b{f.result()}\b', f.ensures.split('.', 1)[1]), 'the result is not in the ensures')
+        self.each(lambda f: f.gives_result(), 'the result is not in the ensures')
 
     def test_every_contract_gives_what_was_lent(self):
-        self.each(lambda f: all(f'({p} .exit)' in f.ensures for p in f.lent()), 'a lent parameter is not in the ensures at exit')
+        self.each(lambda f: all(re.search(rf'\b{p}\.new\b', f.promised()) for p in f.lent()), 'a lent parameter is not in the ensures at exit')
 
     def test_every_contract_is_an_equation(self):
-        def equation(f):
-            record = PROMISE.search(f.ensures)[1]
-            fields = fields_of(ROOT, record)
-            return '→' not in f.ensures and ('≡' in f.ensures or bool(fields) and all('≡' in kind for _, kind in fields))
+        def equation(clause):
+            fields = fields_of(ROOT, clause.split()[0])
+            return '→' not in clause and ('≡' in clause or bool(fields) and all('≡' in kind for _, kind in fields))
 
-        self.each(equation, 'the ensures is no equation')
+        self.each(lambda f: f.place == READING or all(map(equation, f.ensures)), 'the ensures is no equation')
+        self.assertEqual([f.name for f in FUNCTIONS if f.place == READING], ['read_full'])
 
     def test_an_enum_is_promised_by_its_meaning(self):
         answers = {name for name, cases in enums().items() if ANSWER.search(cases)}
         self.assertLess({'PlaceAnswer', 'BlockAnswer', 'EditAnswer', 'SummaryAnswer'}, answers)
-        self.each(lambda f: f.returned() not in answers or re.search(rf'\w*[mM]eaning \(?{f.result()}\b', f.ensures),
+        self.each(lambda f: f.returned() not in answers or re.search(r'\w*[mM]eaning \(?result\b', f.promised()),
                   'the ensures has no meaning of the enum')
 
 
@@ -53,13 +54,24 @@ class Reading(unittest.TestCase):
         return next(functions_in(text, 'lib.rt'))
 
     def test_clauses(self):
-        f = self.one('pub fn f(a: u8, out: &mut [u8]) -> Answer\n    requires { ⌜ 0 < a ⌝ }\n    ensures { λ r. ⌜ r ≡ g { x } ⌝ }\n{\n    a\n}\n')
-        self.assertEqual((f.returned(), f.lent(), f.result()), ('Answer', ['out'], 'r'))
-        self.assertEqual((f.requires.strip(), f.ensures.strip()), ('⌜ 0 < a ⌝', 'λ r. ⌜ r ≡ g { x } ⌝'))
+        f = self.one('pub fn f(a: u8, out: &mut [u8]) -> Answer\n    requires { 0 < a }\n    ensures { result ≡ g { x } }\n{\n    a\n}\n')
+        self.assertEqual((f.returned(), f.lent(), f.gives_result()), ('Answer', ['out'], True))
+        self.assertEqual((f.requires, f.ensures), (['0 < a'], ['result ≡ g { x }']))
+
+    def test_clauses_with_names(self):
+        f = self.one('pub fn f(a: u8) -> u8\n    requires low { 0 < a }\n    requires high { a < 9 }\n    ensures* one { b }\n    ensures two {\n        c }\n{\n    a\n}\n')
+        self.assertEqual((f.returned(), f.gives_result()), ('u8', False))
+        self.assertEqual((f.requires, f.ensures), (['0 < a', 'a < 9'], ['b', 'c']))
 
     def test_no_clauses(self):
         f = self.one('// pub fn g() {}\npub extern "C" fn f() -> Answer {\n    Answer { x: 1 }\n}\n')
-        self.assertEqual((f.name, f.returned(), f.requires, f.ensures), ('f', 'Answer', '', ''))
+        self.assertEqual((f.name, f.returned(), f.requires, f.ensures), ('f', 'Answer', [], []))
+
+    def test_what_is_before_the_word_fn(self):
+        for words in ('pub fn', 'pub const fn', 'pub unsafe extern "C" fn'):
+            with self.subTest(words):
+                f = self.one(f'{words} f() {{\n}}\n')
+                self.assertEqual((f.name, f.public), ('f', True))
 
 
 if __name__ == '__main__':

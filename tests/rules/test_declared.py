@@ -26,9 +26,9 @@ pub struct Record {
 pub(crate) enum Kind {
     Case,
 }
-#[no_mangle]
+#[unsafe(no_mangle)]
 pub extern "C" fn tfk_call(a: u8) -> u8
-    ensures { λ r. ⌜ r ≡ a ⌝ }
+    ensures { result ≡ a }
 {
     helper(a) // fn word
 }

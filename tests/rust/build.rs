@@ -1,4 +1,4 @@
-//! Links the library's archive: TUFAKPENI_ARCHIVE (an absolute path), or where `rt staticlib trace_c` puts it.
+//! Links the library's archive: TUFAKPENI_ARCHIVE (an absolute path), or where `rt lib` puts it in crates/trace_c.
 
 use std::env;
 use std::path::{Path, PathBuf};
@@ -8,7 +8,7 @@ fn main() {
     let archive = env::var_os("TUFAKPENI_ARCHIVE").map_or_else(built, PathBuf::from);
     let archive = archive.canonicalize().unwrap_or_else(|error| {
         panic!(
-            "{}: {error}; make it by `rt staticlib trace_c`, or name another in TUFAKPENI_ARCHIVE",
+            "{}: {error}; make it by `rt lib --cpu=x86-64` in crates/trace_c, or name another in TUFAKPENI_ARCHIVE",
             archive.display()
         )
     });
@@ -18,7 +18,7 @@ fn main() {
 }
 
 fn built() -> PathBuf {
-    Path::new(env!("CARGO_MANIFEST_DIR")).join("../../target/staticlib/libtrace_c.a")
+    Path::new(env!("CARGO_MANIFEST_DIR")).join("../../crates/trace_c/out/libtrace_c.a")
 }
 
 fn folder(archive: &Path) -> &Path {

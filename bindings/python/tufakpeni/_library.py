@@ -17,9 +17,9 @@ NAME = 'libtufakpeni.so'
 INTERFACE = 6
 
 MAKE = f"""Make it in the repository's root by
-    rt staticlib trace_c
+    (cd crates/trace_c && rt lib --cpu=x86-64)
     gcc -shared -o bindings/python/tufakpeni/{NAME} \\
-        -Wl,--whole-archive target/staticlib/libtrace_c.a -Wl,--no-whole-archive
+        -Wl,--whole-archive crates/trace_c/out/libtrace_c.a -Wl,--no-whole-archive
 or name its place in the environment variable {VARIABLE}."""
 MISSING = f'there is no {NAME}: {{place}} is not there.\n{MAKE}'
 UNFIT = f"{{place}} has {{found}}, and this module needs the interface of number {INTERFACE}.\n{MAKE}"
