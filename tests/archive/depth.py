@@ -38,14 +38,15 @@ def deepest(functions, outside=()):
     """The deepest stack of each exported call, below the place where it stands when the call begins. What is outside counts 0."""
     open_ = []
 
+    def called(step):
+        return 0 if step.callee in outside else step.pushed + depth(step.callee)
+
     @cache
     def depth(name):
-        if name in outside:
-            return 0
         if name in open_:
             raise ValueError(f'{name} calls itself')
         open_.append(name)
-        most = max(used + max(0, step.moved, step.pushed + depth(step.callee) if step.callee else 0) for step, used in walked(functions[name]))
+        most = max(used + max(0, step.moved, called(step) if step.callee else 0) for step, used in walked(functions[name]))
         open_.pop()
         return most
 

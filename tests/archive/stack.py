@@ -2,8 +2,8 @@
 
     python3 tests/archive/stack.py [ARCHIVE]
 
-Of a call are counted the caller's return address, all that its function and those below it push or keep, and of what the archive does not have
-(memset) nothing but its return address. What cannot be told stops it: a stack pointer that is computed, a call by a pointer, a function that calls itself."""
+Of a call are counted the caller's return address, all that its function and those below it push or keep, and nothing of what the archive does
+not have (memset). What cannot be told stops it: a stack pointer that is computed, a call by a pointer, a function that calls itself."""
 import re
 import sys
 

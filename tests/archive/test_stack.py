@@ -17,7 +17,7 @@ KNOWN = {
     'two ways': ('tfk_f: test %edi, %edi; je 1f; sub $32, %rsp; add $32, %rsp; ret; 1: sub $48, %rsp; add $48, %rsp; ret', 56),
     'a loop': ('tfk_f: push %rbx; 1: dec %edi; jne 1b; pop %rbx; ret', 16),
     'a jump to a function': ('tfk_f: sub $32, %rsp; add $32, %rsp; jmp g; .section .text.g; g: sub $40, %rsp; add $40, %rsp; ret', 48),
-    'what the archive does not have': ('tfk_f: push %rax; call memset; pop %rax; ret', 24),
+    'what the archive does not have': ('tfk_f: push %rax; call memset; pop %rax; ret', 16),
 }
 UNKNOWN = {
     'a computed stack pointer': 'tfk_f: push %rbp; mov %rsp, %rbp; sub %rdi, %rsp; mov %rbp, %rsp; pop %rbp; ret',
