@@ -1,4 +1,4 @@
--- The latest of many: what `latest` finds, and what it means that it is the latest.
+-- The latest of many: what `latest` finds, and what it means to be the latest. That it finds just that: proofs/Latest.antt.
 -- Assumes nothing.
 use Rattle.std.specs.Prelude.{◌≡◌, List, ◌∷◌, ◌++◌, reverse}
 use Rattle.std.proofs.Math.Option.{Option, none, some}

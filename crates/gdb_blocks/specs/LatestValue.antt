@@ -1,5 +1,5 @@
--- C-13: the last variable block counts. Variable v in frame n is x exactly where, of the frame's blocks, a `V` block with the number v has the value x
--- and no later block has that number.
+-- C-13: the last variable block counts. What it means that variable v in frame n is x: of the frame's blocks, a `V` block with the number v has the value x
+-- and no later block has that number. That the question answers exactly so: proofs/LatestValue.antt.
 -- Assumes nothing.
 use Rattle.std.specs.Prelude.{◌≡◌, ℕ, List, ◌∷◌, ◌++◌, ℤ, ◌≢◌}
 use Rattle.fields.specs.Lists.{Each}

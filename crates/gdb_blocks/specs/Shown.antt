@@ -1,6 +1,5 @@
--- What is answered about blocks is what the trace holds (Held.antt). At the place and of the length that are answered stand the block's own bytes, none of them
--- early or late; at the place of a block's record stands the block. So it is for every file, frame and address, and for all settings: in both byte orders.
--- A reader that starts a register block sixteen bytes late, and so shows v1 where v0 should be, answers against `registers_stand` and `piece_shown`.
+-- What it means that the bytes at a place are those of a frame's block, and that a block stands at its record's place. That the questions answer so, for
+-- every file, frame and address and for all settings: proofs/Shown.antt.
 -- Assumes nothing.
 use Rattle.std.specs.Prelude.{◌≡◌, ℕ, ◌+◌, List, length, take, drop}
 use Rattle.std.proofs.Math.Option.{Option}

@@ -201,6 +201,8 @@ pub fn front(s: &[u8], end: usize) -> &[u8]
     &s[..end]
 }
 
+// A call of its own, so that what it needs of the stack is given back before a question walks to its answer.
+#[inline(never)]
 fn read_as(format: Format, file: &[u8]) -> Reading
     ensures { reading_meaning result ≡ summary_in format (decode format file.now) }
 {

@@ -1,5 +1,4 @@
--- Which parts are read, of every file: nothing of one that is too long; the opening; six bytes at each head and where the next should start; and the
--- data of frame n where its head stands.
+-- Lists of parts by the heads of a walk, in which the theorems about the parts that are read speak (proofs/PartsRead.antt).
 -- Assumes nothing.
 use Rattle.std.specs.Prelude.{ℕ, ◌+◌}
 use mathlib.Core.List.{List, [], ◌∷◌}

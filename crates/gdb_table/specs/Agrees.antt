@@ -1,7 +1,4 @@
--- C-19: the register place in the frame table. An accepted file has a record for every frame; the record's yes or no and its place agree with what the
--- registers question answers: yes exactly where it answers, with its place; no exactly where it gives 12, with the place 0. Where the record says yes, the
--- registers of that frame stand at its place, right behind their letter and as many bytes as the R line says: whoever has the table and the R line needs no
--- question more.
+-- C-19: what it means that a record of the frame table agrees with the registers question. That each record does: proofs/Agrees.antt.
 -- Assumes nothing.
 use Rattle.std.specs.Prelude.{◌≡◌, ◌⊎◌, ℕ}
 use Rattle.refusals.specs.Refusal.{not_found}
