@@ -2,7 +2,7 @@
  * Tufakpeni: a proved reader of GDB trace files and of trace.dat files of version 6.
  *
  * Every call takes any file and any arguments, checks them itself and ends. No call keeps a pointer, takes memory or
- * writes anywhere but into the output that it is lent; of the stack it needs less than 1,100 bytes for a GDB trace and less than 9 KiB
+ * writes anywhere but into the output that it is lent; of the stack it needs less than 1 KiB for a GDB trace and less than 9 KiB
  * for a trace.dat file (docs/PERFORMANCE.md). Where a length is 0 the pointer is not followed, but it may not be null
  * in C++'s or Rust's sense of a slice; a pointer to any object will do.
  *
