@@ -15,3 +15,5 @@ pub mod Copies
 pub mod Refuses
 pub mod Element
 pub mod Given
+pub mod Meaning
+pub mod Orders
