@@ -1,13 +1,21 @@
 -- A memory or variable block, or else what the register block's test answers.
-use Rattle.std.proofs.Common.{false}
+use Rattle.std.proofs.Common.{false, Ok, Some}
+use Rattle.std.proofs.lemmas.Result.{err_from_is_err_and}
 use Rattle.gdb_format.specs.Opening.{size_meaning}
 use Rattle.gdb_format.specs.Decode.{block}
+use Rattle.gdb_data.specs.Blocks.{OtherAt}
 use Rattle.gdb_data.proofs.block_end.Goals as goal
 
-pub returns-in-Block : goal.returns-in-Block
+pub returns-in_err-end : goal.returns-in_err-end
 unfolding block
-returns-in-Block c = c.in-Block.ensures.1 (size_meaning c.args.size) false
+returns-in_err-end c = let p = err_from_is_err_and c.from_residual.result c.from_residual.ensures.1 in rw (p.1, p.2) (c.in_err-end.ensures.1 (size_meaning c.args.size) false)
 
-pub returns-in-Neither : goal.returns-in-Neither
+pub returns-in-Some : goal.returns-in-Some
 unfolding block
-returns-in-Neither c = c.registers_end.ensures c.args.format
+returns-in-Some c =
+    let h : OtherAt c.args.format c.args.d.now c.args.at (Ok (Some c.in-Some.end)) = rw c.in-Some.is at c.in_ok-end.ensures in
+    h.1 (size_meaning c.args.size) false
+
+pub returns-in-None : goal.returns-in-None
+unfolding block
+returns-in-None c = c.registers_end.ensures c.args.format

@@ -24,4 +24,4 @@ pub returns : goal.returns
 returns c =
     λ f. let h : LetterAt f c.args.d.now c.args.at = record { inside = c.requires.0 } in
     is-first h (size_meaning c.args.size) c.args.seen (search) c.if-seen.false
-    (registers-some c.args.d.now (c.args.at + 1) (omega (arith, c.requires.0)) c.in-Bytes.is c.bytes_end.ensures)
+    (registers-some c.args.d.now (c.args.at + 1) (omega (arith, c.requires.0)) c.in-Some.is c.bytes_end.ensures)
