@@ -15,6 +15,13 @@ ghost use Rattle.gdb_data.specs.Blocks.{has_number, search_meaning, number_at, N
 use gdb_format::Format;
 use refusals::Refusal;
 
+// How the frames of a file are laid out: its format, and the size of a register block, where the description states one.
+#[derive(Clone, Copy, Debug, PartialEq, Eq)]
+pub struct Layout {
+    pub format: Format,
+    pub size: Option<usize>,
+}
+
 // The memory that a block holds: where it starts, and how many bytes.
 #[derive(Clone, Copy, Debug, PartialEq, Eq)]
 pub struct MemorySpan {
@@ -97,13 +104,13 @@ fn other_end(format: Format, d: &[u8], at: usize) -> Result<Option<usize>, Refus
 }
 
 // The end of the block at `at`, as the first of its frame.
-fn block_end(format: Format, size: Option<usize>, d: &[u8], at: usize) -> Result<usize, Refusal>
+fn block_end(layout: Layout, d: &[u8], at: usize) -> Result<usize, Refusal>
     requires { at < length d.now }
-    ensures { end_meaning result ≡ pass_at (block format (size_meaning size)) d.now at }
+    ensures { end_meaning result ≡ pass_at (block layout.format (size_meaning layout.size)) d.now at }
 {
-    match other_end(format, d, at)? {
+    match other_end(layout.format, d, at)? {
         Some(end) => Ok(end),
-        None => registers_end(size, false, d, at),
+        None => registers_end(layout.size, false, d, at),
     }
 }
 
@@ -127,19 +134,14 @@ fn kind_at(format: Format, d: &[u8], at: usize) -> BlockKind
 }
 
 // The block at `at`, in data that ends where `d` does; none at the end. What stands before it does not count: a second register block is told like a first.
-pub fn block_at(
-    format: Format,
-    size: Option<usize>,
-    d: &[u8],
-    at: usize,
-) -> Result<Option<BlockStep>, Refusal>
-    ensures { block_step_meaning result ≡ step_at block_seen (block format (size_meaning size)) d.now at }
+pub fn block_at(layout: Layout, d: &[u8], at: usize) -> Result<Option<BlockStep>, Refusal>
+    ensures { block_step_meaning result ≡ step_at block_seen (block layout.format (size_meaning layout.size)) d.now at }
 {
     if d.len() <= at {
         return Ok(None);
     }
-    let next = block_end(format, size, d, at)?;
-    let kind = kind_at(format, d, at);
+    let next = block_end(layout, d, at)?;
+    let kind = kind_at(layout.format, d, at);
     let record = BlockRecord { place: at, kind };
     Ok(Some(BlockStep { record, next }))
 }
@@ -152,18 +154,13 @@ pub struct SearchStep {
 }
 
 // What stands at `at`, as `block_at` has it, told by whether it is a register block.
-pub fn registers_at(
-    format: Format,
-    size: Option<usize>,
-    d: &[u8],
-    at: usize,
-) -> Result<Option<SearchStep>, Refusal>
-    ensures { search_meaning result ≡ step_at (λ i b. is_registers b) (block format (size_meaning size)) d.now at }
+pub fn registers_at(layout: Layout, d: &[u8], at: usize) -> Result<Option<SearchStep>, Refusal>
+    ensures { search_meaning result ≡ step_at (λ i b. is_registers b) (block layout.format (size_meaning layout.size)) d.now at }
 {
     if d.len() <= at {
         return Ok(None);
     }
-    let next = block_end(format, size, d, at)?;
+    let next = block_end(layout, d, at)?;
     let sought = d[at] == b'R';
     Ok(Some(SearchStep { sought, next }))
 }
@@ -178,19 +175,18 @@ fn has_number(format: Format, d: &[u8], at: usize, number: u32) -> bool
 
 // What stands at `at`, as `block_at` has it, told by whether it is a block of variable `number`.
 pub fn variable_at(
-    format: Format,
-    size: Option<usize>,
+    layout: Layout,
     d: &[u8],
     at: usize,
     number: u32,
 ) -> Result<Option<SearchStep>, Refusal>
-    ensures { search_meaning result ≡ step_at (λ i b. has_number number b) (block format (size_meaning size)) d.now at }
+    ensures { search_meaning result ≡ step_at (λ i b. has_number number b) (block layout.format (size_meaning layout.size)) d.now at }
 {
     if d.len() <= at {
         return Ok(None);
     }
-    let next = block_end(format, size, d, at)?;
-    let sought = has_number(format, d, at, number);
+    let next = block_end(layout, d, at)?;
+    let sought = has_number(layout.format, d, at, number);
     Ok(Some(SearchStep { sought, next }))
 }
 
@@ -209,18 +205,13 @@ fn others_end(format: Format, d: &[u8], from: usize) -> Result<Option<usize>, Re
 }
 
 // Whether blocks fill `d` from `from` on exactly, at most one of them a register block; else the refusal of the first that does not fit.
-pub fn blocks_from(
-    format: Format,
-    size: Option<usize>,
-    d: &[u8],
-    from: usize,
-) -> Result<(), Refusal>
-    ensures { answer_of result ≡ blocks_fill format (size_meaning size) false (drop from d.now) }
+pub fn blocks_from(layout: Layout, d: &[u8], from: usize) -> Result<(), Refusal>
+    ensures { answer_of result ≡ blocks_fill layout.format (size_meaning layout.size) false (drop from d.now) }
 {
     let mut at = from;
     let mut seen = false;
-    while let Some(place) = others_end(format, d, at)? {
-        at = registers_end(size, seen, d, place)?;
+    while let Some(place) = others_end(layout.format, d, at)? {
+        at = registers_end(layout.size, seen, d, place)?;
         seen = true;
     }
     Ok(())

@@ -93,7 +93,7 @@ read_seen x = next x (λ r. accepted (summary_of r.0 r.1))
 -- what `Opened` says
 abbrev pub opened_meaning : Opened → Summary
 opened_meaning o =
-    record { format = o.format; size = size_meaning o.size; start = o.start; end = o.end; frames = o.frames; marked = o.marked }
+    record { format = o.layout.format; size = size_meaning o.layout.size; start = o.start; end = o.end; frames = o.frames; marked = o.marked }
 
 abbrev pub reading_meaning : Result Opened Refusal → Answer Summary
 reading_meaning r = answer_by opened_meaning r

@@ -14,6 +14,7 @@ ghost use Rattle.gdb_format.specs.Decode.{read as file_read};
 ghost use Rattle.gdb_read.specs.Steps.{frame_meaning, head_seen, frame_seen, frames_meaning, frames_counted, reading_meaning, summary_in, read_seen};
 
 use fields::Order;
+use gdb_data::Layout;
 use gdb_format::{Format, Settings};
 use refusals::{LIMIT, Refusal};
 
@@ -79,18 +80,13 @@ pub fn head_at(format: Format, s: &[u8], at: usize) -> Result<Option<FrameStep>,
 }
 
 // The frame at `at` with all its blocks; none at the end of the file.
-pub fn frame_at(
-    format: Format,
-    size: Option<usize>,
-    s: &[u8],
-    at: usize,
-) -> Result<Option<FrameStep>, Refusal>
-    ensures { frame_meaning result ≡ step_at (frame_seen format) (frame format (size_meaning size)) s.now at }
+pub fn frame_at(layout: Layout, s: &[u8], at: usize) -> Result<Option<FrameStep>, Refusal>
+    ensures { frame_meaning result ≡ step_at (frame_seen layout.format) (frame layout.format (size_meaning layout.size)) s.now at }
 {
-    let Some(step) = head_at(format, s, at)? else {
+    let Some(step) = head_at(layout.format, s, at)? else {
         return Ok(None);
     };
-    gdb_data::blocks_from(format, size, &s[..step.next], step.head.place)?;
+    gdb_data::blocks_from(layout, &s[..step.next], step.head.place)?;
     Ok(Some(step))
 }
 
@@ -128,13 +124,8 @@ pub struct FrameCount {
 
 // How many frames stand in `s` from `from` on, up to its end or to the end mark; or the refusal of the first that does not fit. Behind the end stand none:
 // tested once, and no turn tests it.
-pub fn frames_from(
-    format: Format,
-    size: Option<usize>,
-    s: &[u8],
-    from: usize,
-) -> Result<FrameCount, Refusal>
-    ensures { frames_meaning result ≡ frames_counted format (size_meaning size) (drop from s.now) }
+pub fn frames_from(layout: Layout, s: &[u8], from: usize) -> Result<FrameCount, Refusal>
+    ensures { frames_meaning result ≡ frames_counted layout.format (size_meaning layout.size) (drop from s.now) }
 {
     if s.len() < from {
         return Ok(FrameCount {
@@ -151,7 +142,7 @@ pub fn frames_from(
                 marked: true,
             });
         }
-        let Some(step) = frame_at(format, size, s, at)? else {
+        let Some(step) = frame_at(layout, s, at)? else {
             return Ok(FrameCount {
                 count,
                 marked: false,
@@ -162,12 +153,11 @@ pub fn frames_from(
     }
 }
 
-// A file that was read whole: how, the register size that it states, where its frames start and end, how many it has, and whether the mark
+// A file that was read whole: how its frames are laid out, where its frames start and end, how many it has, and whether the mark
 // stands behind them.
 #[derive(Clone, Copy, Debug, PartialEq, Eq)]
 pub struct Opened {
-    pub format: Format,
-    pub size: Option<usize>,
+    pub layout: Layout,
     pub start: usize,
     pub end: usize,
     pub frames: usize,
@@ -193,10 +183,13 @@ fn read_as(format: Format, file: &[u8]) -> Result<Opened, Refusal>
         return Err(Refusal::TooLong);
     }
     let opening = gdb_format::opening_of(format, file)?;
-    let frames = frames_from(format, opening.size, file, opening.end)?;
-    Ok(Opened {
+    let layout = Layout {
         format,
         size: opening.size,
+    };
+    let frames = frames_from(layout, file, opening.end)?;
+    Ok(Opened {
+        layout,
         start: opening.end,
         end: file.len() - mark_length(frames.marked),
         frames: frames.count,

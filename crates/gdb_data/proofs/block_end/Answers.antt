@@ -8,14 +8,14 @@ use Rattle.gdb_data.proofs.block_end.Goals as goal
 
 pub returns-in_err-end : goal.returns-in_err-end
 unfolding block
-returns-in_err-end c = let p = err_from_is_err_and c.from_residual.result c.from_residual.ensures.1 in rw (p.1, p.2) (c.in_err-end.ensures.1 (size_meaning c.args.size) false)
+returns-in_err-end c = let p = err_from_is_err_and c.from_residual.result c.from_residual.ensures.1 in rw (p.1, p.2) (c.in_err-end.ensures.1 (size_meaning c.args.layout.size) false)
 
 pub returns-in-Some : goal.returns-in-Some
 unfolding block
 returns-in-Some c =
-    let h : OtherAt c.args.format c.args.d.now c.args.at (Ok (Some c.in-Some.end)) = rw c.in-Some.is at c.in_ok-end.ensures in
-    h.1 (size_meaning c.args.size) false
+    let h : OtherAt c.args.layout.format c.args.d.now c.args.at (Ok (Some c.in-Some.end)) = rw c.in-Some.is at c.in_ok-end.ensures in
+    h.1 (size_meaning c.args.layout.size) false
 
 pub returns-in-None : goal.returns-in-None
 unfolding block
-returns-in-None c = c.registers_end.ensures c.args.format
+returns-in-None c = c.registers_end.ensures c.args.layout.format

@@ -8,10 +8,10 @@ use Rattle.gdb_data.proofs.variable_at.Goals as goal
 
 pub returns-in_err-next : goal.returns-in_err-next
 returns-in_err-next c =
-    let h : Ended c.args.format (size_meaning c.args.size) false c.args.d.now c.args.at c.block_end.result = judged (omega arith) c.block_end.ensures in
+    let h : Ended c.args.layout.format (size_meaning c.args.layout.size) false c.args.d.now c.args.at c.block_end.result = judged (omega arith) c.block_end.ensures in
     let p = err_from_is_err_and c.from_residual.result c.from_residual.ensures.1 in rw (p.1, p.2) (shown_refused h (λ i b. has_number c.args.number b) c.in_err-next.was)
 
 pub returns : goal.returns
 returns c =
-    let h : Ended c.args.format (size_meaning c.args.size) false c.args.d.now c.args.at c.block_end.result = judged (omega arith) c.block_end.ensures in
+    let h : Ended c.args.layout.format (size_meaning c.args.layout.size) false c.args.d.now c.args.at c.block_end.result = judged (omega arith) c.block_end.ensures in
     shown_number h c.args.number c.in_ok-next.was c.has_number-sought.ensures
