@@ -17,7 +17,7 @@ use refusals::Refusal;
 
 // How the frames of a file are laid out: its format, and the size of a register block, where the description states one.
 #[derive(Clone, Copy, Debug, PartialEq, Eq)]
-pub struct Layout {
+pub struct FrameLayout {
     pub format: Format,
     pub size: Option<usize>,
 }
@@ -104,7 +104,7 @@ fn other_end(format: Format, d: &[u8], at: usize) -> Result<Option<usize>, Refus
 }
 
 // The end of the block at `at`, as the first of its frame.
-fn block_end(layout: Layout, d: &[u8], at: usize) -> Result<usize, Refusal>
+fn block_end(layout: FrameLayout, d: &[u8], at: usize) -> Result<usize, Refusal>
     requires { at < length d.now }
     ensures { end_meaning result ≡ pass_at (block layout.format (size_meaning layout.size)) d.now at }
 {
@@ -134,7 +134,7 @@ fn kind_at(format: Format, d: &[u8], at: usize) -> BlockKind
 }
 
 // The block at `at`, in data that ends where `d` does; none at the end. What stands before it does not count: a second register block is told like a first.
-pub fn block_at(layout: Layout, d: &[u8], at: usize) -> Result<Option<BlockStep>, Refusal>
+pub fn block_at(layout: FrameLayout, d: &[u8], at: usize) -> Result<Option<BlockStep>, Refusal>
     ensures { block_step_meaning result ≡ step_at block_seen (block layout.format (size_meaning layout.size)) d.now at }
 {
     if d.len() <= at {
@@ -154,7 +154,7 @@ pub struct SearchStep {
 }
 
 // What stands at `at`, as `block_at` has it, told by whether it is a register block.
-pub fn registers_at(layout: Layout, d: &[u8], at: usize) -> Result<Option<SearchStep>, Refusal>
+pub fn registers_at(layout: FrameLayout, d: &[u8], at: usize) -> Result<Option<SearchStep>, Refusal>
     ensures { search_meaning result ≡ step_at (λ i b. is_registers b) (block layout.format (size_meaning layout.size)) d.now at }
 {
     if d.len() <= at {
@@ -175,7 +175,7 @@ fn has_number(format: Format, d: &[u8], at: usize, number: u32) -> bool
 
 // What stands at `at`, as `block_at` has it, told by whether it is a block of variable `number`.
 pub fn variable_at(
-    layout: Layout,
+    layout: FrameLayout,
     d: &[u8],
     at: usize,
     number: u32,
@@ -205,7 +205,7 @@ fn others_end(format: Format, d: &[u8], from: usize) -> Result<Option<usize>, Re
 }
 
 // Whether blocks fill `d` from `from` on exactly, at most one of them a register block; else the refusal of the first that does not fit.
-pub fn blocks_from(layout: Layout, d: &[u8], from: usize) -> Result<(), Refusal>
+pub fn blocks_from(layout: FrameLayout, d: &[u8], from: usize) -> Result<(), Refusal>
     ensures { answer_of result ≡ blocks_fill layout.format (size_meaning layout.size) false (drop from d.now) }
 {
     let mut at = from;

@@ -14,7 +14,7 @@ ghost use Rattle.gdb_format.specs.Decode.{read as file_read};
 ghost use Rattle.gdb_read.specs.Steps.{frame_meaning, head_seen, frame_seen, frames_meaning, frames_counted, reading_meaning, summary_in, read_seen};
 
 use fields::Order;
-use gdb_data::Layout;
+use gdb_data::FrameLayout;
 use gdb_format::{Format, Settings};
 use refusals::{LIMIT, Refusal};
 
@@ -80,7 +80,7 @@ pub fn head_at(format: Format, s: &[u8], at: usize) -> Result<Option<FrameStep>,
 }
 
 // The frame at `at` with all its blocks; none at the end of the file.
-pub fn frame_at(layout: Layout, s: &[u8], at: usize) -> Result<Option<FrameStep>, Refusal>
+pub fn frame_at(layout: FrameLayout, s: &[u8], at: usize) -> Result<Option<FrameStep>, Refusal>
     ensures { frame_meaning result ≡ step_at (frame_seen layout.format) (frame layout.format (size_meaning layout.size)) s.now at }
 {
     let Some(step) = head_at(layout.format, s, at)? else {
@@ -124,7 +124,7 @@ pub struct FrameCount {
 
 // How many frames stand in `s` from `from` on, up to its end or to the end mark; or the refusal of the first that does not fit. Behind the end stand none:
 // tested once, and no turn tests it.
-pub fn frames_from(layout: Layout, s: &[u8], from: usize) -> Result<FrameCount, Refusal>
+pub fn frames_from(layout: FrameLayout, s: &[u8], from: usize) -> Result<FrameCount, Refusal>
     ensures { frames_meaning result ≡ frames_counted layout.format (size_meaning layout.size) (drop from s.now) }
 {
     if s.len() < from {
@@ -157,7 +157,7 @@ pub fn frames_from(layout: Layout, s: &[u8], from: usize) -> Result<FrameCount, 
 // stands behind them.
 #[derive(Clone, Copy, Debug, PartialEq, Eq)]
 pub struct Opened {
-    pub layout: Layout,
+    pub layout: FrameLayout,
     pub start: usize,
     pub end: usize,
     pub frames: usize,
@@ -183,7 +183,7 @@ fn read_as(format: Format, file: &[u8]) -> Result<Opened, Refusal>
         return Err(Refusal::TooLong);
     }
     let opening = gdb_format::opening_of(format, file)?;
-    let layout = Layout {
+    let layout = FrameLayout {
         format,
         size: opening.size,
     };
