@@ -142,5 +142,8 @@ pub fn line_place(settings: Settings, file: &[u8], j: usize) -> Result<Descripti
 pub fn line(settings: Settings, file: &[u8], j: usize) -> &[u8]
     ensures { Handed file.now (asked settings file.now (line_place j)) result.now }
 {
-    part_of(file, line_place(settings, file, j).map(|line| line.part))
+    match line_place(settings, file, j) {
+        Ok(line) => line.part.bytes(file),
+        Err(_) => &file[..0],
+    }
 }
