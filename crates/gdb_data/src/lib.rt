@@ -14,6 +14,7 @@ ghost use Rattle.gdb_data.specs.Blocks.{has_number, search_meaning, number_at, N
 
 use gdb_format::Format;
 use refusals::Refusal;
+use std::fmt;
 
 // How the frames of a file are laid out: its format, and the size of a register block, where the description states one.
 #[derive(Clone, Copy, Debug, PartialEq, Eq)]
@@ -35,6 +36,21 @@ pub enum BlockKind {
     Registers,
     Memory(MemorySpan),
     Variable { number: u32, value: i64 },
+}
+
+// By its word, with what it carries.
+impl fmt::Display for BlockKind {
+    fn fmt<W: fmt::Write>(&self, f: &mut fmt::Formatter<W>) -> fmt::Result {
+        match self {
+            BlockKind::Registers => write!(f, "registers"),
+            BlockKind::Memory(span) => write!(
+                f,
+                "memory address {} length {}",
+                span.address, span.length
+            ),
+            BlockKind::Variable { number, value } => write!(f, "variable {number} value {value}"),
+        }
+    }
 }
 
 // A block: the place of its letter, and its kind.

@@ -10,6 +10,7 @@ ghost use Rattle.gdb_format.specs.Opening.{line_of, below, register_step, line_s
 
 use fields::Order;
 use refusals::Refusal;
+use std::fmt;
 
 // How a file is to be read, in the caller's numbers: the byte order is 0 for little, 1 for big; the base of the R line is 16 or 10.
 #[repr(C)]
@@ -67,15 +68,29 @@ impl TryFrom<Settings> for Format {
     }
 }
 
-// A description line's kind, as what it starts with tells.
+// A description line's kind, as what it starts with tells, in the order of the C header's numbers.
 #[derive(Clone, Copy, Debug, PartialEq, Eq)]
 pub enum LineKind {
+    Other,
     Registers,
     Status,
     Tracepoint,
     Variable,
     Target,
-    Other,
+}
+
+// By its word.
+impl fmt::Display for LineKind {
+    fn fmt<W: fmt::Write>(&self, f: &mut fmt::Formatter<W>) -> fmt::Result {
+        f.write_str(match self {
+            LineKind::Other => "other",
+            LineKind::Registers => "registers",
+            LineKind::Status => "status",
+            LineKind::Tracepoint => "tracepoint",
+            LineKind::Variable => "variable",
+            LineKind::Target => "target",
+        })
+    }
 }
 
 fn is_register(l: &[u8]) -> bool
