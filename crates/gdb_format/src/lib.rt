@@ -126,23 +126,25 @@ pub fn line_kind(l: &[u8]) -> LineKind
     LineKind::Other
 }
 
-// What the place of a digit counts.
-fn radix_of(base: Base) -> usize
-    ensures { result ≡ radix base }
-{
-    match base {
-        Base::Ten => 10,
-        Base::Sixteen => 16,
+impl Base {
+    // What the place of a digit counts.
+    fn radix(self) -> usize
+        ensures { result ≡ radix self }
+    {
+        match self {
+            Base::Ten => 10,
+            Base::Sixteen => 16,
+        }
     }
-}
 
-// How many digits an R line may have.
-fn most_digits(base: Base) -> usize
-    ensures { result ≡ most_digits base }
-{
-    match base {
-        Base::Ten => 5,
-        Base::Sixteen => 4,
+    // How many digits an R line may have.
+    fn most_digits(self) -> usize
+        ensures { result ≡ most_digits self }
+    {
+        match self {
+            Base::Ten => 5,
+            Base::Sixteen => 4,
+        }
     }
 }
 
@@ -164,8 +166,8 @@ fn digit_in(radix: usize, b: u8) -> Option<usize>
 fn size_in(format: Format, l: &[u8]) -> Option<usize>
     ensures { held result ≡ size_of format l.now }
 {
-    let radix = radix_of(format.base);
-    let most = most_digits(format.base);
+    let radix = format.base.radix();
+    let most = format.base.most_digits();
     if l.len() < 3 || most < l.len() - 2 {
         return None;
     }
@@ -221,14 +223,12 @@ fn line_step(format: Format, seen: Seen, l: &[u8]) -> Result<Seen, Refusal>
 pub fn line_end(s: &[u8], from: usize) -> usize
     ensures { result ≡ from + length (line_of (drop from s.now)) }
 {
-    let mut at = from;
-    while at < s.len() {
+    for at in from..s.len() {
         if s[at] == b'\n' {
             return at;
         }
-        at += 1;
     }
-    at
+    from.max(s.len())
 }
 
 // Where the description ends, after the empty line's 0A, and the register size that it states.
