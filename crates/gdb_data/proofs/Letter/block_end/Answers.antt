@@ -4,7 +4,7 @@ use Rattle.std.proofs.lemmas.Result.{err_from_is_err_and}
 use Rattle.gdb_format.specs.Opening.{size_meaning}
 use Rattle.gdb_format.specs.Decode.{block}
 use Rattle.gdb_data.specs.Blocks.{OtherAt}
-use Rattle.gdb_data.proofs.block_end.Goals as goal
+use Rattle.gdb_data.proofs.Letter.block_end.Goals as goal
 
 pub returns-in_err-end : goal.returns-in_err-end
 unfolding block
@@ -13,7 +13,7 @@ returns-in_err-end c = let p = err_from_is_err_and c.from_residual.result c.from
 pub returns-in-Some : goal.returns-in-Some
 unfolding block
 returns-in-Some c =
-    let h : OtherAt c.args.layout.format c.args.d.now c.args.at (Ok (Some c.in-Some.end)) = rw c.in-Some.is at c.in_ok-end.ensures in
+    let h : OtherAt c.args.layout.format c.args.self.d.now c.args.self.at (Ok (Some c.in-Some.end)) = rw c.in-Some.is at c.in_ok-end.ensures in
     h.1 (size_meaning c.args.layout.size) false
 
 pub returns-in-None : goal.returns-in-None
