@@ -193,7 +193,9 @@ fn register_step(format: Format, seen: Seen, l: &[u8]) -> Result<Seen, Refusal>
     if seen.size.is_some() {
         return Err(Refusal::BadLine);
     }
-    let n = size_in(format, l).ok_or(Refusal::BadLine)?;
+    let Some(n) = size_in(format, l) else {
+        return Err(Refusal::BadLine);
+    };
     Ok(Seen {
         size: Some(n),
         ..seen
