@@ -4,13 +4,13 @@ ghost use Rattle.fields.specs.Meaning.{answer_of};
 ghost use Rattle.gdb_data.specs.Blocks.{kind_meaning};
 ghost use Rattle.gdb_frames.specs.Questions.{place_meaning, line_meaning};
 ghost use Rattle.gdb_blocks.specs.Search.{block_meaning};
-ghost use Rattle.gdb_seek.specs.Found.{frame_answer_meaning};
+ghost use Rattle.gdb_seek.specs.Found.{found_meaning};
 ghost use Rattle.gdb_flat.specs.Flat.{flat_count, flat_mark, flat_place, flat_frame, kind_number, flat_line, shown_block, flat_block, flat_value};
 
 use gdb_data::{BlockKind, BlockRecord};
 use gdb_format::LineKind;
 use gdb_frames::{DescriptionLine, Part};
-use gdb_seek::SoughtFrame;
+use gdb_seek::FoundFrame;
 use refusals::Refusal;
 
 #[repr(C)]
@@ -135,11 +135,11 @@ pub struct FramePart {
     pub heads: usize,
 }
 
-impl From<Result<SoughtFrame, Refusal>> for FramePart {
-    ghost from_gives = { λ answer frame. frame ≡ flat_frame (frame_answer_meaning answer) };
+impl From<Result<FoundFrame, Refusal>> for FramePart {
+    ghost from_gives = { λ answer frame. frame ≡ flat_frame (found_meaning answer) };
 
     #[tactic(auto, unfolding(crate::specs::Flat::flat_frame))]
-    fn from(answer: Result<SoughtFrame, Refusal>) -> Self {
+    fn from(answer: Result<FoundFrame, Refusal>) -> Self {
         match answer {
             Ok(frame) => FramePart {
                 refusal: 0,
