@@ -1,7 +1,9 @@
 -- What a step read, or why it stopped; a fixed string, and data behind its size.
 -- Assumes nothing.
-use Rattle.std.specs.Prelude.{◌≡◌, refl, true, ℕ, ◌+◌, ◌-◌, ◌≤◌, List, [], length, drop}
+use Rattle.std.specs.Prelude.{◌≡◌, refl, true, ℕ, ◌+◌, ◌-◌, ◌≤◌, List, [], length, drop, Result, Ok, Err}
 use Rattle.std.proofs.Common.{ap, ◌∙◌, arith, drop_of_length-le}
+use Rattle.refusals.specs.declared.Refusal.{Refusal}
+use Rattle.refusals.specs.Number.{number}
 use Rattle.fields.specs.Lists.{concat_map}
 use Rattle.fields.specs.Number.{Bytes, field-before}
 use Rattle.fields.specs.Word.{starts}
@@ -15,8 +17,6 @@ use Rattle.dat_format.specs.Pieces.{fixed, sized, put_sized, put_counted}
 use Rattle.dat_format.specs.Layout.{DataFits}
 use Rattle.dat_read.specs.Steps.{step_meaning}
 use Rattle.dat_read.specs.Summary.{part, part_to}
-use Rattle.dat_read.specs.declared.pieces.Step.{Step}
-use Rattle.dat_read.specs.declared.pieces.Step.TheVariants.{Next, Refused}
 use Rattle.dat_read.specs.declared.summary.Part.{Part}
 
 -- a place in a file, where a walk begins
@@ -25,13 +25,13 @@ pub record Begun (o : Order) (s : List ℕ) (at : ℕ) : Type 0 where
   pub inside : at ≤ length s
 
 -- a step's refusal is its reader's
-pub stopped : {A : Type 0} (p : Reader A) (s : List ℕ) (at : ℕ) {r : Step} {n : ℕ} → r ≡ Refused n → step_meaning r ≡ pass_at p s at
-    → p (drop at s) ≡ refused n
-stopped p s at {r} {n} e h = not_read (λ i a. tt) p s at n (at_case step_meaning e h)
+pub stopped : {A : Type 0} (p : Reader A) (s : List ℕ) (at : ℕ) {r : Result ℕ Refusal} {n : Refusal} → r ≡ Err n → step_meaning r ≡ pass_at p s at
+    → p (drop at s) ≡ refused (number n)
+stopped p s at {r} {n} e h = not_read (λ i a. tt) p s at (number n) (at_case step_meaning e h)
 
 -- a step that went on has read what its reader reads
-pub gone_on : {A : Type 0} {p : Reader A} {F : A → Type 0} {put : A → List ℕ} {s : List ℕ} {at m : ℕ} {r : Step}
-    → Exact p F put → Bytes s → at ≤ length s → r ≡ Next m → step_meaning r ≡ pass_at p s at → Got p F put s at m
+pub gone_on : {A : Type 0} {p : Reader A} {F : A → Type 0} {put : A → List ℕ} {s : List ℕ} {at m : ℕ} {r : Result ℕ Refusal}
+    → Exact p F put → Bytes s → at ≤ length s → r ≡ Ok m → step_meaning r ≡ pass_at p s at → Got p F put s at m
 gone_on {s = s} {at = at} {m = m} x b h e k = passed x s b at h m (at_case step_meaning e k)
 
 -- behind the file's end stands nothing
