@@ -1,7 +1,9 @@
 -- What a step read, or why it stopped; a fixed string, and data behind its size.
 -- Assumes nothing.
 use Rattle.std.specs.Prelude.{◌≡◌, refl, true, ℕ, ◌+◌, ◌-◌, ◌≤◌, List, [], length, drop, Result}
-use Rattle.std.proofs.Common.{ap, ◌∙◌, arith, drop_of_length-le}
+use Rattle.std.proofs.Common.{sym, ap, ◌∙◌, arith, drop_of_length-le}
+use Rattle.std.proofs.Math.Decide.{dec_le}
+use Rattle.std.proofs.Math.Logic.{by_cases}
 use Rattle.std.proofs.lemmas.Result.{err_from_is_err_and}
 use Rattle.std.specs.Result.{IsErrAnd}
 use Rattle.refusals.specs.declared.Refusal.{Refusal}
@@ -9,7 +11,7 @@ use Rattle.refusals.specs.Number.{number}
 use Rattle.fields.specs.Lists.{concat_map}
 use Rattle.fields.specs.Number.{Bytes, field-before}
 use Rattle.fields.specs.Word.{starts}
-use Rattle.fields.specs.Answer.{Answer, accepted, refused}
+use Rattle.fields.specs.Answer.{Answer, accepted, refused, never}
 use Rattle.fields.specs.Meaning.{answer_by}
 use Rattle.fields.specs.Reader.{Reader, seen_at, pass_at}
 use Rattle.fields.specs.Exact.{Exact}
@@ -38,6 +40,11 @@ handed_on view r e h k = let p = err_from_is_err_and r h in rw (p.1, p.2) k
 pub nothing_there : {A C : Type 0} (view : ℕ → A → C) (p : Reader A) (s : List ℕ) (at k : ℕ) → length s ≤ at → p [] ≡ refused k
     → refused k ≡ seen_at view p s at
 nothing_there view p s at k h e = rw (drop_of_length-le s h, e)
+
+-- so a reader of something has read inside the file
+pub read_inside : {A : Type 0} (p : Reader A) (s : List ℕ) (at : ℕ) {k m : ℕ} → p [] ≡ refused k → accepted (tt, m) ≡ pass_at p s at → at ≤ length s
+read_inside p s at {k} e h =
+    by_cases (dec_le at (length s)) (λ l. l) (λ l. never (nothing_there (λ i a. tt {0}) p s at k (omega arith) e ∙ sym h))
 
 -- a walk for one thing that starts at `from`: it ends where a walk from `at` on does
 pub record Going {A : Type 0} (p : Reader A) (s : List ℕ) (from at : ℕ) : Type 0 where

@@ -2,12 +2,10 @@
 -- Assumes nothing.
 use Rattle.std.specs.Prelude.{◌≡◌, refl, ℕ, ◌+◌, ◌<◌, ◌≤◌, List, ◌++◌, length, take, drop}
 use Rattle.std.proofs.Common.{sym, ap, ◌∙◌, arith, append_assoc, length-append, take_at}
-use Rattle.std.proofs.Math.Decide.{dec_le}
-use Rattle.std.proofs.Math.Logic.{by_cases}
 use Rattle.refusals.specs.Refusal.{field_past_file}
 use Rattle.fields.specs.Lists.{concat_map}
 use Rattle.fields.specs.Number.{Bytes, number, field, length-field, number-field, word_at, word_in_lem}
-use Rattle.fields.specs.Answer.{Answer, accepted, refused, never}
+use Rattle.fields.specs.Answer.{Answer, accepted, refused}
 use Rattle.fields.specs.Reader.{Reader, seen_at, pass_at}
 use Rattle.fields.specs.At.{place_of}
 use Rattle.fields.specs.Got.{Got, shown_of}
@@ -19,10 +17,9 @@ use Rattle.dat_format.specs.Decode.{system, sections}
 use Rattle.dat_format.specs.ExactPieces.{exact_name, exact_after, exact_sized, exact_counted}
 use Rattle.dat_format.specs.ExactSections.{exact_system}
 use Rattle.dat_read.specs.Summary.{part_to, section_parts}
-use Rattle.dat_read.specs.Read.{stopped, gone_on, nothing_there, length-sized, length-counted, part-is}
+use Rattle.dat_read.specs.Read.{stopped, gone_on, read_inside, nothing_there, length-sized, length-counted, part-is}
 use Rattle.dat_read.specs.declared.summary.Part.{Part}
 use Rattle.dat_read.specs.declared.summary.SectionParts.{SectionParts}
-use Rattle.dat_sections.proofs.ElementLaws.{name_none}
 
 -- ---- what was read: data behind a word and a size, elements behind a count
 
@@ -59,14 +56,11 @@ module _ (o : Order) (s : List ℕ) (at : ℕ) where
   unfolding system
   bad_name e = rw (stopped name s at e)
 
-  name_inside : {m : ℕ} → accepted (tt, m) ≡ pass_at name s at → at ≤ length s
-  name_inside e = by_cases (dec_le at (length s)) (λ h. h) (λ h. never (name_none s at (omega arith) ∙ sym e))
-
   pub named : Bytes s → {m : ℕ} → accepted (tt, m) ≡ pass_at name s at → {x : Answer (Unit {0} × ℕ)}
       → x ≡ pass_at (counted o (sized o 8)) s m → x ≡ pass_at (system o) s at
   unfolding system
   named b {m} e k =
-      let g = gone_on exact_name b (name_inside e) e in
+      let g = gone_on exact_name b (read_inside name s at refl e) e in
       k ∙ sym (shown_of {B = System} (λ a. tt) (length s) (counted o (sized o 8) (drop m s)) (λ fs. record { name = g.value; formats = fs }))
       ∙ rw g.reads
 
