@@ -55,6 +55,10 @@ decimal-long (suc k) n h =
     let d : n / 10 < 10 ^ suc k = (div-lt_iff_lt-mul (zero-lt-suc 9)).1 (rw (pow-suc 10 (suc k)) at h) in
     ⊎_elim (few k n) (more k n (decimal-long k (n / 10) d)) (eq-zero-or-pos (n / 10))
 
+-- a number of 64 bits has at most 20 digits
+pub decimal-word : (n : ℕ) → n < 2 ^ 64 → length (decimal n) ≤ 20
+decimal-word n h = decimal-long 19 n (omega arith)
+
 ten_above : (k : ℕ) → 0 < 10 ^ k
 ten_above zero = omega arith
 ten_above (suc k) = omega (arith, pow-suc 10 k, ten_above k)

@@ -7,6 +7,7 @@ use Rattle.fields.specs.Answer.{Answer, accepted, never, accepted-one}
 use Rattle.fields.specs.Meaning.{answer_of}
 use Rattle.fields.specs.Output.{Lent, lent_written}
 use Rattle.gdb_read.specs.Steps.{Row}
+use Rattle.std.specs.Result.{IsOk}
 use Rattle.gdb_listing.specs.Text.{text}
 use Rattle.gdb_listing.specs.Written.{Puts, front_bytes, Wrote}
 use Rattle.gdb_listing.specs.declared.Writer.{Writer}
@@ -27,8 +28,9 @@ wrote_all {a} {b} {w} {after} z p f =
 
 -- with room there is a listing, and the output begins with its text
 module _ (w out : List ℕ) (h : length w ≤ length out) where
-  pub room_writes : {X : Type 0} (e : Refusal) {after : List ℕ} → Lent (accepted w) out (answer_of (Err e)) after → X
-  room_writes e d = never (rw (le-leb (length w) (length out) h) at d.answers)
+  pub room_writes : (r : Result ℕ Refusal) {after : List ℕ} → Lent (accepted w) out (answer_of r) after → IsOk r
+  room_writes (Ok k) d = refl
+  room_writes (Err e) d = never (rw (le-leb (length w) (length out) h) at d.answers)
 
   pub room-text : {after : List ℕ} {k : ℕ} → Lent (accepted w) out (answer_of (Ok k)) after → (k ≤ length after) × (take k after ≡ w)
   room-text {after} {k} d =
