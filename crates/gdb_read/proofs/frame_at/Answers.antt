@@ -2,7 +2,6 @@
 use Rattle.std.proofs.Common.{sym, ap, ◌∙◌, ◌≡◌, Ok, Some}
 use Rattle.std.proofs.lemmas.Result.{err_from_is_err_and}
 use Rattle.refusals.specs.Number.{number}
-use Rattle.fields.specs.Answer.{accepted}
 use Rattle.fields.specs.Given.{bytes-given}
 use Rattle.fields.specs.Reader.{step_at}
 use Rattle.fields.specs.At.{Turn, walk_more}
@@ -10,7 +9,7 @@ use Rattle.gdb_format.specs.Opening.{size_meaning}
 use Rattle.gdb_format.specs.Decode.{frame_head}
 use Rattle.gdb_format.specs.ExactFrame.{takes-head}
 use Rattle.gdb_read.specs.Steps.{head_seen, head_meaning, frame_meaning}
-use Rattle.gdb_read.proofs.Frames.{frame-end, frame-fault, frame_refused, frame-sound}
+use Rattle.gdb_read.proofs.Frames.{frame-fault, frame_refused, frame-sound}
 use Rattle.gdb_read.proofs.frame_at.Goals as goal
 
 pub returns-in_err-step : goal.returns-in_err-step

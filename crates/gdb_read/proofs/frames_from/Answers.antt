@@ -4,7 +4,7 @@ use Rattle.std.proofs.lemmas.Result.{err_from_is_err_and}
 use Rattle.fields.specs.Reader.{step_at}
 use Rattle.gdb_format.specs.Decode.{frame}
 use Rattle.gdb_format.specs.Opening.{size_meaning}
-use Rattle.gdb_read.specs.Steps.{frame_seen, head_meaning, frame_meaning}
+use Rattle.gdb_read.specs.Steps.{frame_seen, frame_meaning}
 use Rattle.gdb_read.proofs.Walks.{Counted, count_past, count-mark, count-end, count-refused, count_turn}
 use Rattle.gdb_read.proofs.frames_from.Goals as goal
 
