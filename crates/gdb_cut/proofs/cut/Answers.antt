@@ -1,6 +1,5 @@
 -- Every refusal leaves the output; else the opening and the kept frames are written, and the mark behind them.
 use Rattle.std.proofs.Common.{sym, ◌∙◌}
-use Rattle.std.proofs.lemmas.Result.{err_from_is_err_and}
 use Rattle.refusals.specs.Number.{number}
 use Rattle.refusals.specs.Refusal.{bad_argument}
 use Rattle.fields.specs.Output.{lent-refused}
@@ -8,6 +7,7 @@ use Rattle.gdb_read.specs.Steps.{opened_meaning}
 use Rattle.gdb_frames.specs.File.{WasRead, read-given}
 use Rattle.gdb_cut.specs.Cut.{cut_of}
 use Rattle.gdb_cut.proofs.Cuts.{cut_invalid, cut-refused, heads-there, end-there, no-room, all-written}
+use Rattle.fields.specs.Given.{handed_on}
 use Rattle.gdb_cut.proofs.cut.Goals as goal
 use Rattle.gdb_cut.proofs.cut.Goals.{In_ok-opened}
 
@@ -19,8 +19,7 @@ returns-then-not-is_valid c =
 pub returns-in_err-opened : goal.returns-in_err-opened
 returns-in_err-opened c =
     let n = number c.in_err-opened.field-0.0 in
-    let p = err_from_is_err_and c.from_residual.result c.from_residual.ensures.1 in
-    rw (p.1, p.2) (lent-refused (cut_of c.args.settings c.args.selection c.args.file.now) c.args.out.now n
+    rw (handed_on c.from_residual.ensures.1) (lent-refused (cut_of c.args.settings c.args.selection c.args.file.now) c.args.out.now n
     (cut-refused c.args.settings c.args.selection c.args.file.now n (sym c.is_valid.ensures ∙ c.if-not-is_valid.false) c.in_err-opened.ensures))
 
 -- the file that was read

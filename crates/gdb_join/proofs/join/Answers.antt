@@ -1,13 +1,13 @@
 -- What is to be joined, and then the room.
 use Rattle.std.proofs.Common.{arith, sym, ap, ◌∙◌, ◌-◌, ◌++◌, ℕ, List, length, take, drop}
 use Rattle.std.proofs.Math.Seq.{length-take-le}
-use Rattle.std.proofs.lemmas.Result.{err_from_is_err_and}
 use Rattle.refusals.specs.Number.{number}
 use Rattle.fields.specs.Answer.{accepted}
 use Rattle.fields.specs.Output.{lent_written, lent-full, lent-refused}
 use Rattle.gdb_format.specs.Trace.{put_mark}
 use Rattle.gdb_read.specs.Steps.{opened_meaning}
 use Rattle.gdb_join.specs.JoinLaws.{refused-given, paired_given, Joins, pair_joins}
+use Rattle.fields.specs.Given.{handed_on}
 use Rattle.gdb_join.proofs.join.Goals as goal
 use Rattle.gdb_join.proofs.join.Goals.{In_ok-pair}
 
@@ -17,8 +17,7 @@ joins c = pair_joins (paired_given c.type_inv.first c.type_inv.second c.in_ok-pa
 pub returns-in_err-pair : goal.returns-in_err-pair
 returns-in_err-pair c =
     let n = number c.in_err-pair.field-0.0 in
-    let p = err_from_is_err_and c.from_residual.result c.from_residual.ensures.1 in
-    rw (p.1, p.2) (lent-refused _ _ n (refused-given _ _ _ n c.type_inv.first c.type_inv.second c.in_err-pair.ensures))
+    rw (handed_on c.from_residual.ensures.1) (lent-refused _ _ n (refused-given _ _ _ n c.type_inv.first c.type_inv.second c.in_err-pair.ensures))
 
 pub joined_length-requires : goal.joined_length-requires
 joined_length-requires c = let j = joins (goal.at.joined_length-requires c).In_ok-pair in (j.second-start, omega (arith, j.short))

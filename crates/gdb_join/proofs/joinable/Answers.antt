@@ -1,12 +1,12 @@
 -- Both are read, the openings are compared, and the length is judged.
 use Rattle.std.proofs.Common.{arith, sym, ◌≡◌, take, refl, true, false, Bool}
 use Rattle.std.proofs.Math.Seq.{length-take-le}
-use Rattle.std.proofs.lemmas.Result.{err_from_is_err_and}
 use Rattle.refusals.specs.Number.{number}
 use Rattle.fields.specs.Lists.{clash}
 use Rattle.gdb_read.specs.Steps.{opened_meaning}
 use Rattle.gdb_frames.specs.File.{WasRead, read-given}
 use Rattle.gdb_join.specs.JoinLaws.{join_first, join-second, pair_of_refused, countable, first-start, second-start, pair_differs, pair-long, pair-sound}
+use Rattle.fields.specs.Given.{handed_on}
 use Rattle.gdb_join.proofs.joinable.Goals as goal
 use Rattle.gdb_join.proofs.joinable.Goals.{In_ok-a, In_ok-b}
 
@@ -20,15 +20,13 @@ two c = read-given c.type_inv.second c.in_ok-b.was c.read-2.ensures
 pub returns-in_err-a : goal.returns-in_err-a
 returns-in_err-a c =
     let n = number c.in_err-a.field-0.0 in
-    let p = err_from_is_err_and c.from_residual.result c.from_residual.ensures.1 in
-    rw (p.1, p.2) (pair_of_refused c.args.settings c.args.first.now c.args.second.now n
+    rw (handed_on c.from_residual.ensures.1) (pair_of_refused c.args.settings c.args.first.now c.args.second.now n
     (join_first c.args.settings c.args.first.now c.args.second.now n c.in_err-a.ensures))
 
 pub returns-in_err-b : goal.returns-in_err-b
 returns-in_err-b c =
     let n = number c.in_err-b.field-0.0 in
-    let p = err_from_is_err_and c.from_residual-in_err-b.result c.from_residual-in_err-b.ensures.1 in
-    rw (p.1, p.2) (pair_of_refused c.args.settings c.args.first.now c.args.second.now n
+    rw (handed_on c.from_residual-in_err-b.ensures.1) (pair_of_refused c.args.settings c.args.first.now c.args.second.now n
     (join-second c.args.settings c.args.first.now c.args.second.now _ n (one (goal.at.returns-in_err-b c).In_ok-a).summed c.in_err-b.ensures))
 
 pub slice_bounds-same-end : goal.slice_bounds-same-end

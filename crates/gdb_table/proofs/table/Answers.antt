@@ -1,6 +1,6 @@
 -- The file is refused, there are more frames than records, or the walk's records are written.
 use Rattle.std.proofs.Common.{arith, sym, ap, ◌∙◌, ◌++◌, drop, length-take-le}
-use Rattle.std.proofs.lemmas.Result.{err_from_is_err_and}
+use Rattle.fields.specs.Given.{handed_on}
 use Rattle.refusals.specs.Number.{number}
 use Rattle.fields.specs.Output.{lent_written, lent-full, lent-refused}
 use Rattle.gdb_read.specs.Steps.{opened_meaning}
@@ -14,9 +14,8 @@ use Rattle.gdb_table.proofs.table.Goals as goal
 
 pub returns-in_err-opened : goal.returns-in_err-opened
 returns-in_err-opened c =
-    let p = err_from_is_err_and c.from_residual.result c.from_residual.ensures.1 in
     let n = number c.in_err-opened.field-0.0 in
-    rw (p.1, p.2)
+    rw (handed_on c.from_residual.ensures.1)
     (lent-refused (asked c.args.settings c.args.file.now frame_table) c.args.out.now n
     (sym (asked-refused c.args.settings c.args.file.now frame_table n c.in_err-opened.ensures)))
 
