@@ -6,53 +6,45 @@ ghost use Rattle.dat_format.specs.Pieces.{fixed, sized};
 ghost use Rattle.dat_read.specs.Steps.{step_meaning, width_meaning};
 
 use fields::Order;
-use refusals::{BAD_CONSTANT, FIELD_PAST_FILE};
+use refusals::Refusal;
 
-// The place after what a step read, or a refusal.
-#[derive(Clone, Copy)]
-pub enum Step {
-    Next(usize),
-    Refused(u8),
-}
+// Each step here answers the place after what it read.
 
 // A fixed string at a place in the file.
-fn fixed_in<'a>(s: &'a [u8], word: &'a [u8], at: usize) -> Step
+#[tactic(auto, using(crate::proofs::PieceLaws::fixed_begins, crate::proofs::PieceLaws::fixed_other))]
+fn fixed_in<'a>(s: &'a [u8], word: &'a [u8], at: usize) -> Result<usize, Refusal>
     requires { at ≤ length s.now }
     ensures { step_meaning result ≡ pass_at (fixed word.now) s.now at }
 {
     let n = word.len();
     if s.len() - at < n {
-        return Step::Refused(FIELD_PAST_FILE);
+        return Err(Refusal::FieldPastFile);
     }
-    if fields::begins(&s[at..], word) {
-        return Step::Next(at + n);
+    if !fields::begins(&s[at..], word) {
+        return Err(Refusal::BadConstant);
     }
-    Step::Refused(BAD_CONSTANT)
+    Ok(at + n)
 }
 
 // A fixed string at `at`; behind the file's end stands what stands at its end.
-pub fn fixed_at<'a>(s: &'a [u8], word: &'a [u8], at: usize) -> Step
+pub fn fixed_at<'a>(s: &'a [u8], word: &'a [u8], at: usize) -> Result<usize, Refusal>
     ensures { step_meaning result ≡ pass_at (fixed word.now) s.now at }
 {
-    if s.len() < at {
-        return fixed_in(s, word, s.len());
-    }
-    fixed_in(s, word, at)
+    fixed_in(s, word, at.min(s.len()))
 }
 
 // How many bytes a size field has.
-#[derive(Clone, Copy)]
+#[derive(Clone, Copy, Debug, PartialEq, Eq)]
 pub enum Width {
-    Four,
-    Eight,
+    Four = 4,
+    Eight = 8,
 }
 
-fn bytes_of(width: Width) -> usize
-    ensures { result ≡ width_meaning width }
-{
-    match width {
-        Width::Four => 4,
-        Width::Eight => 8,
+impl Width {
+    fn bytes(self) -> usize
+        ensures { result ≡ width_meaning self }
+    {
+        self as usize
     }
 }
 
@@ -66,20 +58,17 @@ fn size_at(s: &[u8], order: Order, width: Width, at: usize) -> u64
 }
 
 // A size at `at`, and that many bytes.
-pub fn sized_at(s: &[u8], order: Order, width: Width, at: usize) -> Step
+pub fn sized_at(s: &[u8], order: Order, width: Width, at: usize) -> Result<usize, Refusal>
     ensures { step_meaning result ≡ pass_at (sized order (width_meaning width)) s.now at }
 {
-    if s.len() < at {
-        return Step::Refused(FIELD_PAST_FILE);
-    }
-    let w = bytes_of(width);
-    if s.len() - at < w {
-        return Step::Refused(FIELD_PAST_FILE);
+    let w = width.bytes();
+    if s.len() < at || s.len() - at < w {
+        return Err(Refusal::FieldPastFile);
     }
     let n = size_at(s, order, width, at) as usize;
     let body = at + w;
     if s.len() - body < n {
-        return Step::Refused(FIELD_PAST_FILE);
+        return Err(Refusal::FieldPastFile);
     }
-    Step::Next(body + n)
+    Ok(body + n)
 }

@@ -5,14 +5,14 @@ ghost use Rattle.dat_read.specs.Summary.{part_to};
 use fields::Order;
 
 // A part of the file.
-#[derive(Clone, Copy)]
+#[derive(Clone, Copy, Debug, PartialEq, Eq)]
 pub struct Part {
     pub place: usize,
     pub size: usize,
 }
 
 // Byte order, long size and page size.
-#[derive(Clone, Copy)]
+#[derive(Clone, Copy, Debug, PartialEq, Eq)]
 pub struct Flags {
     pub order: Order,
     pub long: u8,
@@ -20,7 +20,7 @@ pub struct Flags {
 }
 
 // The header page's and header event's data; the ftrace formats and the systems, each after their count; both counts.
-#[derive(Clone, Copy)]
+#[derive(Clone, Copy, Debug, PartialEq, Eq)]
 pub struct SectionParts {
     pub header_page: Part,
     pub header_event: Part,
@@ -31,7 +31,7 @@ pub struct SectionParts {
 }
 
 // Kallsyms, printk formats and process names; the CPU count.
-#[derive(Clone, Copy)]
+#[derive(Clone, Copy, Debug, PartialEq, Eq)]
 pub struct TextParts {
     pub kallsyms: Part,
     pub printk: Part,
@@ -40,14 +40,14 @@ pub struct TextParts {
 }
 
 // How a header ends.
-#[derive(Clone, Copy)]
+#[derive(Clone, Copy, Debug, PartialEq, Eq)]
 pub enum EndingKind {
     Latency,
     Flyrecord,
 }
 
 // The options, the kind of the ending, and where its entries or text start.
-#[derive(Clone, Copy)]
+#[derive(Clone, Copy, Debug, PartialEq, Eq)]
 pub struct TailParts {
     pub options: Part,
     pub ending: EndingKind,
@@ -56,7 +56,7 @@ pub struct TailParts {
 
 // `options` runs from the first type through the closing 0, and is 0 and 0 where there are none; `body` is the CPU entries, or
 // the text of a latency file.
-#[derive(Clone, Copy)]
+#[derive(Clone, Copy, Debug, PartialEq, Eq)]
 pub struct Summary {
     pub flags: Flags,
     pub sections: SectionParts,

@@ -1,11 +1,10 @@
--- What the steps over a list of elements and over a name answer in each case that the code tells apart.
+-- What steps over a list of elements and over a name answer in each case that the code tells apart.
 -- Assumes nothing.
-use mathlib.Core.Path.{◌≡◌, refl, sym, ◌∙◌}
-use Prim.Native.Nat.{ℕ, zero, suc, ◌+◌, ◌-◌, ◌<◌, ◌≤◌}
-use native.Mathlib.Omega.{arith}
-use mathlib.Core.List.{List, ◌∷◌}
-use lib.ListN.{length, drop, get_or, drop_of_length-le}
-use borrow.Author.Tests.{ne_eqb}
+use Rattle.std.specs.Prelude.{◌≡◌, ◌≢◌, refl, ℕ, zero, suc, ◌+◌, ◌-◌, ◌<◌, ◌≤◌, List, ◌∷◌, length, drop, get_or}
+use Rattle.std.proofs.Common.{sym, ◌∙◌, arith, ne_eqb, drop_of_length-le, le-leb, lt_of_not-le}
+use Rattle.std.proofs.Math.Decide.{dec_le}
+use Rattle.std.proofs.Math.Logic.{by_cases}
+use Rattle.std.proofs.lemmas.Bool.{lt-leb}
 use Rattle.refusals.specs.Refusal.{field_past_file}
 use Rattle.fields.specs.Lists.{drop-one}
 use Rattle.fields.specs.Number.{Bytes, word_at, word_in_lem}
@@ -16,72 +15,61 @@ use Rattle.fields.specs.At.{num-short, num-at, place_of}
 use Rattle.fields.specs.Got.{Got, shown_of}
 use Rattle.fields.specs.declared.Order.{Order}
 use Rattle.dat_format.specs.Pieces.{times, counted, name}
-use Rattle.dat_read.specs.Steps.{step_meaning}
-use Rattle.dat_read.specs.Read.{stopped, gone_on, Going}
-use Rattle.dat_read.specs.declared.pieces.Step.{Step}
-use Rattle.dat_read.specs.declared.pieces.Step.TheVariants.{Next, Refused}
+use Rattle.dat_read.specs.Read.{stopped, gone_on}
+use Rattle.dat_sections.specs.Steps.{repeat, counted_by}
+
+-- ---- a step that is made n times
+
+module _ (step : ℕ → Answer (Unit {0} × ℕ)) (at n made : ℕ) (l : made < n) where
+  left : n - made ≡ suc (n - (made + 1))
+  left = omega arith
+
+  repeat_stop : {k : ℕ} → refused k ≡ step at → refused k ≡ repeat (n - made) step at
+  repeat_stop e = rw (left, ← e)
+
+  pub repeat_turn : {m : ℕ} → accepted (tt, m) ≡ step at → repeat (n - (made + 1)) step m ≡ repeat (n - made) step at
+  repeat_turn e = rw (left, ← e)
+
+-- behind a count, the step that refuses tells for all
+pub counted_stop : (o : Order) (step : ℕ → Answer (Unit {0} × ℕ)) (s : List ℕ) (at n made m : ℕ) {k : ℕ} → 4 ≤ length s - at → n ≡ word_at o 4 s at
+    → made < n → repeat (n - made) step m ≡ repeat n step (at + 4) → refused k ≡ step m → refused k ≡ counted_by o step s at
+counted_stop o step s at n made m l e j h i = repeat_stop step m n made j i ∙ h ∙ rw (le-leb 4 (length s - at) l, e)
 
 -- ---- elements behind their count
 
-module _ {A : Type 0} (p : Reader A) (o : Order) (s : List ℕ) (at : ℕ) (h : at ≤ length s) where
-  pub counted_none : length s - at < 4 → refused field_past_file ≡ pass_at (counted o p) s at
-  counted_none l = rw (num-short s at o 4 field_past_file l)
+module _ {A : Type 0} {p : Reader A} {F : A → Type 0} {put : A → List ℕ} (x : Exact p F put) (s : List ℕ) (b : Bytes s) where
+  abbrev Same : ℕ → ℕ → Type 0
+  Same n at = repeat n (pass_at p s) at ≡ pass_at (times n p) s at
 
-  pub counted-here : 4 ≤ length s - at → {n : ℕ} → n ≡ word_at o 4 s at → {x : Answer (Unit {0} × ℕ)} → x ≡ pass_at (times n p) s (at + 4)
-      → x ≡ pass_at (counted o p) s at
-  counted-here l e k = k ∙ rw (num-at s at o 4 field_past_file h l, e ∙ word_in_lem o 4 s at (omega arith))
+  -- as many elements as such steps
+  times_steps : (n at : ℕ) → at ≤ length s → Same n at
+  times_steps zero at h = rw (place_of s at h)
+  times_steps (suc n) at h = by (pass_at p s at) refl (times_steps n)
+    where
+      by : (y : Answer (Unit {0} × ℕ)) → pass_at p s at ≡ y → ((m : ℕ) → m ≤ length s → Same n m) → Same (suc n) at
+      by (refused k) e more = rw (e, stopped p s at (sym e))
+      by (accepted r) e more =
+          let g : Got p F put s at r.1 = gone_on x b h (sym e) in
+          let rest = shown_of {B = List A} (λ a. tt {0}) (length s) (times n p (drop r.1 s)) (λ l. g.value ∷ l) in
+          rw (e, g.reads) (more r.1 g.inside ∙ sym rest)
 
--- ---- a walk over n elements from `from` on: with `left` of them left, from `at` on
-
-pub record Passing {A : Type 0} (p : Reader A) (s : List ℕ) (n from left at : ℕ) : Type 0 where
-  pub bytes : Bytes s
-  pub inside : at ≤ length s
-  pub same : pass_at (times left p) s at ≡ pass_at (times n p) s from
-
-pub passing_start : {A : Type 0} {p : Reader A} {s : List ℕ} {n from : ℕ} → Bytes s → from ≤ length s → Passing p s n from n from
-passing_start b h = record { bytes = b; inside = h; same = refl }
-
-times-end : {A : Type 0} (p : Reader A) (s : List ℕ) (at k : ℕ) → k ≤ 0 → at ≤ length s → accepted (tt, at) ≡ pass_at (times k p) s at
-times-end p s at zero l h = rw (place_of s at h)
-times-end p s at (suc k) l h = absurd (omega arith)
-
-times-stop : {A : Type 0} (p : Reader A) (s : List ℕ) (at k n : ℕ) → 0 < k → p (drop at s) ≡ refused n → refused n ≡ pass_at (times k p) s at
-times-stop p s at zero n l e = absurd (omega arith)
-times-stop p s at (suc k) n l e = rw e
-
-times-turn : {A : Type 0} (p : Reader A) (F : A → Type 0) (put : A → List ℕ) (s : List ℕ) (at k m : ℕ) → 0 < k → Got p F put s at m
-    → pass_at (times (k - 1) p) s m ≡ pass_at (times k p) s at
-times-turn p F put s at zero m l g = absurd (omega arith)
-times-turn p F put s at (suc k) m l g =
-    let e : suc k - 1 ≡ k = omega arith in
-    rw (g.reads, e) (sym (shown_of (λ a. tt) (length s) (times k p (drop m s)) (λ l. g.value ∷ l)))
-
-module _ {A : Type 0} {p : Reader A} {s : List ℕ} {n from left at : ℕ} (w : Passing p s n from left at) where
-  pub passing_end : left ≤ 0 → accepted (tt, at) ≡ pass_at (times n p) s from
-  passing_end l = times-end p s at left l w.inside ∙ w.same
-
-  module _ (l : 0 < left) {r : Step} where
-    pub passing_stop : {k : ℕ} → r ≡ Refused k → step_meaning r ≡ pass_at p s at → refused k ≡ pass_at (times n p) s from
-    passing_stop {k} e h = times-stop p s at left k l (stopped p s at e h) ∙ w.same
-
-    pub passing_on : {F : A → Type 0} {put : A → List ℕ} → Exact p F put → {m : ℕ} → r ≡ Next m → step_meaning r ≡ pass_at p s at
-        → Passing p s n from (left - 1) m
-    passing_on {F} {put} x {m} e h =
-        let g : Got p F put s at m = gone_on x w.bytes w.inside e h in
-        record { bytes = w.bytes; inside = g.inside; same = times-turn p F put s at left m l g ∙ w.same }
+  pub counted_steps : (o : Order) (at : ℕ) → at ≤ length s → counted_by o (pass_at p s) s at ≡ pass_at (counted o p) s at
+  counted_steps o at h =
+      by_cases (dec_le 4 (length s - at))
+      (λ l.
+      rw (le-leb 4 (length s - at) l, num-at s at o 4 field_past_file h l, word_in_lem o 4 s at (omega arith)) (times_steps _ (at + 4) (omega arith)))
+      (λ l. rw (lt-leb 4 (length s - at) (lt_of_not-le l), num-short s at o 4 field_past_file (lt_of_not-le l)))
 
 -- ---- a walk to a name's NUL
 
-module _ {s : List ℕ} {from at : ℕ} (w : Going name s from at) where
-  pub name-none : length s ≤ at → refused field_past_file ≡ pass_at name s from
-  name-none h = let e : refused field_past_file ≡ pass_at name s at = rw (drop_of_length-le s h) in e ∙ w.same
+module _ (s : List ℕ) (at : ℕ) where
+  pub name_none : length s ≤ at → refused field_past_file ≡ pass_at name s at
+  name_none h = rw (drop_of_length-le s h)
 
-  module _ (h : at < length s) where
-    pub name-here : get_or s at 0 ≡ 0 → accepted (tt, at + 1) ≡ pass_at name s from
-    name-here z = let e : accepted (tt, at + 1) ≡ pass_at name s at = rw (drop-one s at h, z, place_of s (at + 1) (omega arith)) in e ∙ w.same
+  pub name_here : at < length s → get_or s at 0 ≡ 0 → accepted (tt, at + 1) ≡ pass_at name s at
+  name_here h z = rw (drop-one s at h, z, place_of s (at + 1) (omega arith))
 
-    pub name_more : (get_or s at 0 ≡ 0 → ⊥) → Going name s from (at + 1)
-    name_more z =
-        let longer = shown_of (λ a. tt) (length s) (name (drop (at + 1) s)) (λ l. get_or s at 0 ∷ l) in
-        let e : pass_at name s (at + 1) ≡ pass_at name s at = rw (drop-one s at h, ne_eqb (get_or s at 0) 0 z) (sym longer) in
-        record { inside = omega arith; same = e ∙ w.same }
+  pub name_more : at < length s → get_or s at 0 ≢ 0 → pass_at name s (at + 1) ≡ pass_at name s at
+  name_more h z =
+      let longer = shown_of (λ a. tt) (length s) (name (drop (at + 1) s)) (λ l. get_or s at 0 ∷ l) in
+      rw (drop-one s at h, ne_eqb (get_or s at 0) 0 z) (sym longer)

@@ -1,30 +1,23 @@
 -- What the steps of the sections answer in each case that the code tells apart.
 -- Assumes nothing.
-use mathlib.Core.Path.{◌≡◌, refl, sym, ap, ◌∙◌}
-use Prim.Native.Nat.{ℕ, ◌+◌, ◌<◌, ◌≤◌}
-use native.Mathlib.Omega.{arith}
-use mathlib.Core.List.{List, ◌++◌, append_assoc}
-use lib.ListN.{length, take, drop, length-append}
-use lib.Seq.{take_at}
+use Rattle.std.specs.Prelude.{◌≡◌, refl, ℕ, ◌+◌, ◌<◌, ◌≤◌, List, ◌++◌, length, take, drop}
+use Rattle.std.proofs.Common.{sym, ap, ◌∙◌, arith, append_assoc, length-append, take_at}
 use Rattle.refusals.specs.Refusal.{field_past_file}
 use Rattle.fields.specs.Lists.{concat_map}
-use Rattle.fields.specs.Number.{number, field, length-field, number-field, word_at, word_in_lem}
+use Rattle.fields.specs.Number.{Bytes, number, field, length-field, number-field, word_at, word_in_lem}
 use Rattle.fields.specs.Answer.{Answer, accepted, refused}
 use Rattle.fields.specs.Reader.{Reader, seen_at, pass_at}
 use Rattle.fields.specs.At.{place_of}
 use Rattle.fields.specs.Got.{Got, shown_of}
 use Rattle.fields.specs.declared.Order.{Order}
-use Rattle.dat_format.specs.Pieces.{after, sized, put_sized, counted, put_counted, name, put_name}
+use Rattle.dat_format.specs.Pieces.{after, sized, put_sized, counted, put_counted, name}
 use Rattle.dat_format.specs.Header.{System, put_system, page_word, event_word}
-use Rattle.dat_format.specs.Layout.{DataFits, CountFits, NameFits, SystemFits}
+use Rattle.dat_format.specs.Layout.{DataFits, CountFits, SystemFits}
 use Rattle.dat_format.specs.Decode.{system, sections}
-use Rattle.dat_format.specs.ExactPieces.{exact_after, exact_sized, exact_counted}
+use Rattle.dat_format.specs.ExactPieces.{exact_name, exact_after, exact_sized, exact_counted}
 use Rattle.dat_format.specs.ExactSections.{exact_system}
-use Rattle.dat_read.specs.Steps.{step_meaning}
 use Rattle.dat_read.specs.Summary.{part_to, section_parts}
-use Rattle.dat_read.specs.Read.{Begun, stopped, gone_on, nothing_there, length-sized, length-counted, part-is}
-use Rattle.dat_read.specs.declared.pieces.Step.{Step}
-use Rattle.dat_read.specs.declared.pieces.Step.TheVariants.{Next, Refused}
+use Rattle.dat_read.specs.Read.{stopped, gone_on, read_inside, nothing_there, length-sized, length-counted, part-is}
 use Rattle.dat_read.specs.declared.summary.Part.{Part}
 use Rattle.dat_read.specs.declared.summary.SectionParts.{SectionParts}
 
@@ -59,15 +52,16 @@ module _ {A : Type 0} (o : Order) (p : Reader A) (F : A → Type 0) (put : A →
 -- ---- a system
 
 module _ (o : Order) (s : List ℕ) (at : ℕ) where
-  pub bad-name : {r : Step} {n : ℕ} → r ≡ Refused n → step_meaning r ≡ pass_at name s at → refused n ≡ pass_at (system o) s at
+  pub bad_name : {n : ℕ} → refused n ≡ pass_at name s at → refused n ≡ pass_at (system o) s at
   unfolding system
-  bad-name e h = rw (stopped name s at e h)
+  bad_name e = rw (stopped name s at e)
 
-  pub system-next : {m : ℕ} → Got name NameFits put_name s at m → {x : Answer (Unit {0} × ℕ)} → x ≡ pass_at (counted o (sized o 8)) s m
-      → x ≡ pass_at (system o) s at
+  pub named : Bytes s → {m : ℕ} → accepted (tt, m) ≡ pass_at name s at → {x : Answer (Unit {0} × ℕ)}
+      → x ≡ pass_at (counted o (sized o 8)) s m → x ≡ pass_at (system o) s at
   unfolding system
-  system-next {m} g e =
-      e ∙ sym (shown_of {B = System} (λ a. tt) (length s) (counted o (sized o 8) (drop m s)) (λ fs. record { name = g.value; formats = fs }))
+  named b {m} e k =
+      let g = gone_on exact_name b (read_inside name s at refl e) e in
+      k ∙ sym (shown_of {B = System} (λ a. tt) (length s) (counted o (sized o 8) (drop m s)) (λ fs. record { name = g.value; formats = fs }))
       ∙ rw g.reads
 
 -- ---- the sections
@@ -79,96 +73,74 @@ pub past_end : (o : Order) (s : List ℕ) (at : ℕ) → length s < at → Secti
 unfolding sections
 past_end o s at h = nothing_there (section_parts o) (sections o) s at field_past_file (omega arith) refl
 
--- what was read up to a place: the page, and the event, and the formats, and the systems
-pub record Paged (o : Order) (s : List ℕ) (at a : ℕ) : Type 0 where
-  pub begun : Begun o s at
-  pub page : Piece o page_word s at a
+-- one stretch after another: the first that is refused refuses the sections
+module _ (o : Order) (s : List ℕ) (bytes : Bytes s) (at : ℕ) (h : at ≤ length s) where
+  abbrev page_piece : Reader (List ℕ)
+  page_piece = after page_word (sized o 8)
 
-pub record Evented (o : Order) (s : List ℕ) (at a b : ℕ) : Type 0 where
-  pub paged : Paged o s at a
-  pub event : Piece o event_word s a b
+  abbrev event_piece : Reader (List ℕ)
+  event_piece = after event_word (sized o 8)
 
-pub record Formatted (o : Order) (s : List ℕ) (at a b c : ℕ) : Type 0 where
-  pub evented : Evented o s at a b
-  pub formats : Counted o (sized o 8) (DataFits 8) (put_sized o 8) s b c
+  abbrev Refused : ℕ → Type 0
+  Refused n = Sections o s at (refused n)
 
-pub record Sectioned (o : Order) (s : List ℕ) (at a b c d : ℕ) : Type 0 where
-  pub formatted : Formatted o s at a b c
-  pub systems : Counted o (system o) SystemFits (put_system o) s c d
-
-module _ {o : Order} {s : List ℕ} {at : ℕ} (p : Begun o s at) {r : Step} where
-  pub bad_page : {n : ℕ} → r ≡ Refused n → step_meaning r ≡ pass_at (after page_word (sized o 8)) s at → Sections o s at (refused n)
+  pub bad_page : {n : ℕ} → refused n ≡ pass_at page_piece s at → Refused n
   unfolding sections
-  bad_page {n} e h = rw (stopped (after page_word (sized o 8)) s at e h)
+  bad_page e = rw (stopped page_piece s at e)
 
-  pub paged : {a : ℕ} → r ≡ Next a → step_meaning r ≡ pass_at (after page_word (sized o 8)) s at → Paged o s at a
-  paged {a} e h = record { begun = p; page = gone_on (exact_after page_word (exact_sized o 8)) p.bytes p.inside e h }
+  module _ {a : ℕ} (ea : accepted (tt, a) ≡ pass_at page_piece s at) where
+    page : Piece o page_word s at a
+    page = gone_on (exact_after page_word (exact_sized o 8)) bytes h ea
 
-module _ {o : Order} {s : List ℕ} {at a : ℕ} (p : Paged o s at a) {r : Step} where
-  pub bad_event : {n : ℕ} → r ≡ Refused n → step_meaning r ≡ pass_at (after event_word (sized o 8)) s a → Sections o s at (refused n)
-  unfolding sections
-  bad_event {n} e h = rw (p.page.reads, stopped (after event_word (sized o 8)) s a e h)
+    pub bad_event : {n : ℕ} → refused n ≡ pass_at event_piece s a → Refused n
+    unfolding sections
+    bad_event e = rw (page.reads, stopped event_piece s a e)
 
-  pub evented : {b : ℕ} → r ≡ Next b → step_meaning r ≡ pass_at (after event_word (sized o 8)) s a → Evented o s at a b
-  evented {b} e h = record { paged = p; event = gone_on (exact_after event_word (exact_sized o 8)) p.begun.bytes p.page.inside e h }
+    module _ {b : ℕ} (eb : accepted (tt, b) ≡ pass_at event_piece s a) where
+      event : Piece o event_word s a b
+      event = gone_on (exact_after event_word (exact_sized o 8)) bytes page.inside eb
 
-module _ {o : Order} {s : List ℕ} {at a b : ℕ} (p : Evented o s at a b) {r : Step} where
-  pub bad_formats : {n : ℕ} → r ≡ Refused n → step_meaning r ≡ pass_at (counted o (sized o 8)) s b → Sections o s at (refused n)
-  unfolding sections
-  bad_formats {n} e h = rw (p.paged.page.reads, p.event.reads, stopped (counted o (sized o 8)) s b e h)
+      pub bad_formats : {n : ℕ} → refused n ≡ pass_at (counted o (sized o 8)) s b → Refused n
+      unfolding sections
+      bad_formats e = rw (page.reads, event.reads, stopped (counted o (sized o 8)) s b e)
 
-  pub formatted : {c : ℕ} → r ≡ Next c → step_meaning r ≡ pass_at (counted o (sized o 8)) s b → Formatted o s at a b c
-  formatted {c} e h = record { evented = p; formats = gone_on (exact_counted (exact_sized o 8) o) p.paged.begun.bytes p.event.inside e h }
+      module _ {c : ℕ} (ec : accepted (tt, c) ≡ pass_at (counted o (sized o 8)) s b) where
+        formats : Counted o (sized o 8) (DataFits 8) (put_sized o 8) s b c
+        formats = gone_on (exact_counted (exact_sized o 8) o) bytes event.inside ec
 
-module _ {o : Order} {s : List ℕ} {at a b c : ℕ} (p : Formatted o s at a b c) {r : Step} where
-  pub bad_systems : {n : ℕ} → r ≡ Refused n → step_meaning r ≡ pass_at (counted o (system o)) s c → Sections o s at (refused n)
-  unfolding sections
-  bad_systems {n} e h =
-      rw (p.evented.paged.page.reads, p.evented.event.reads, p.formats.reads, stopped (counted o (system o)) s c e h)
+        pub bad_systems : {n : ℕ} → refused n ≡ pass_at (counted o (system o)) s c → Refused n
+        unfolding sections
+        bad_systems e = rw (page.reads, event.reads, formats.reads, stopped (counted o (system o)) s c e)
 
-  pub sectioned : {d : ℕ} → r ≡ Next d → step_meaning r ≡ pass_at (counted o (system o)) s c → Sectioned o s at a b c d
-  sectioned {d} e h =
-      record { formatted = p; systems = gone_on (exact_counted (exact_system o) o) p.evented.paged.begun.bytes p.formats.inside e h }
+        module _ {d : ℕ} (ed : accepted (tt, d) ≡ pass_at (counted o (system o)) s c) where
+          systems : Counted o (system o) SystemFits (put_system o) s c d
+          systems = gone_on (exact_counted (exact_system o) o) bytes formats.inside ed
 
-module _ {o : Order} {s : List ℕ} {at a b c d : ℕ} (w : Sectioned o s at a b c d) where
-  -- each part starts behind its word, its size or its count, and ends where the next starts
-  pub parts_lie : (at + 20 ≤ a) × (a + 21 ≤ b) × (b + 4 ≤ c) × (c + 4 ≤ d) × (d ≤ length s)
-  parts_lie =
-      let ea = piece-end o page_word s at a w.formatted.evented.paged.page in
-      let eb = piece-end o event_word s a b w.formatted.evented.event in
-      let ec = counted-end o (sized o 8) (DataFits 8) (put_sized o 8) s b c w.formatted.formats in
-      let ed = counted-end o (system o) SystemFits (put_system o) s c d w.systems in
-      (omega arith, omega arith, omega arith, omega arith, w.systems.inside)
-
-  pub sections-read : {p q r t : Part} {m n : ℕ}
-      → p ≡ part_to (at + 20) a → q ≡ part_to (a + 21) b → r ≡ part_to (b + 4) c → t ≡ part_to (c + 4) d → m ≡ word_at o 4 s b → n ≡ word_at o 4 s c
-      → Sections o s at (accepted (record { header_page = p; header_event = q; formats = r; systems = t; format_count = m; system_count = n }, d))
-  unfolding sections
-  sections-read {p} {q} {r} {t} {m} {n} ep eq er et em en =
-      let ga = w.formatted.evented.paged.page in
-      let gb = w.formatted.evented.event in
-      let gc = w.formatted.formats in
-      let gd = w.systems in
-      let ea : a ≡ at + 20 + length ga.value = piece-end o page_word s at a ga in
-      let eb : b ≡ a + 21 + length gb.value = piece-end o event_word s a b gb in
-      let ec = counted-end o (sized o 8) (DataFits 8) (put_sized o 8) s b c gc in
-      let ed = counted-end o (system o) SystemFits (put_system o) s c d gd in
-      let fa : a + 21 ≡ at + 20 + length ga.value + 21 = omega arith in
-      let fb : b + 4 ≡ at + 20 + length ga.value + 21 + length gb.value + 4 = omega arith in
-      let fc : c + 4 ≡ at + 20 + length ga.value + 21 + length gb.value + 4 + length (concat_map (put_sized o 8) gc.value) + 4 = omega arith in
-      rw (
-        ga.reads,
-        gb.reads,
-        gc.reads,
-        gd.reads,
-        place_of s d gd.inside,
-        part-is (at + 20) a (length ga.value) p ep ea,
-        part-is (a + 21) b (length gb.value) q eq eb,
-        part-is (b + 4) c (length (concat_map (put_sized o 8) gc.value)) r er ec,
-        part-is (c + 4) d (length (concat_map (put_system o) gd.value)) t et ed,
-        count-is o (sized o 8) (DataFits 8) (put_sized o 8) s b c gc m em,
-        count-is o (system o) SystemFits (put_system o) s c d gd n en,
-        fa,
-        fb,
-        fc,
-      )
+          pub sections_read : {p q r t : Part} {m n : ℕ}
+              → p ≡ part_to (at + 20) a → q ≡ part_to (a + 21) b → r ≡ part_to (b + 4) c → t ≡ part_to (c + 4) d → m ≡ word_at o 4 s b → n ≡ word_at o 4 s c
+              → Sections o s at (accepted (record { header_page = p; header_event = q; formats = r; systems = t; format_count = m; system_count = n }, d))
+          unfolding sections
+          sections_read {p} {q} {r} {t} {m} {n} ep eq er et em en =
+              let fa : a ≡ at + 20 + length page.value = piece-end o page_word s at a page in
+              let fb : b ≡ a + 21 + length event.value = piece-end o event_word s a b event in
+              let fc = counted-end o (sized o 8) (DataFits 8) (put_sized o 8) s b c formats in
+              let fd = counted-end o (system o) SystemFits (put_system o) s c d systems in
+              let ga : a + 21 ≡ at + 20 + length page.value + 21 = omega arith in
+              let gb : b + 4 ≡ at + 20 + length page.value + 21 + length event.value + 4 = omega arith in
+              let gc : c + 4 ≡ at + 20 + length page.value + 21 + length event.value + 4 + length (concat_map (put_sized o 8) formats.value) + 4 = omega arith in
+              rw (
+                page.reads,
+                event.reads,
+                formats.reads,
+                systems.reads,
+                place_of s d systems.inside,
+                part-is (at + 20) a (length page.value) p ep fa,
+                part-is (a + 21) b (length event.value) q eq fb,
+                part-is (b + 4) c (length (concat_map (put_sized o 8) formats.value)) r er fc,
+                part-is (c + 4) d (length (concat_map (put_system o) systems.value)) t et fd,
+                count-is o (sized o 8) (DataFits 8) (put_sized o 8) s b c formats m em,
+                count-is o (system o) SystemFits (put_system o) s c d systems n en,
+                ga,
+                gb,
+                gc,
+              )

@@ -1,11 +1,22 @@
--- What the step over the sections answers: what they show, and the place after them.
+-- A step that is made again and again, and a count of such steps.
 -- Assumes nothing: these are definitions.
-use Rattle.std.specs.Prelude.{ℕ}
-use Rattle.fields.specs.Answer.{Answer, accepted, refused}
-use Rattle.dat_read.specs.declared.summary.SectionParts.{SectionParts}
-use Rattle.dat_sections.specs.declared.SectionsStep.{SectionsStep}
-use Rattle.dat_sections.specs.declared.SectionsStep.TheVariants.{Found, Refused}
+use Rattle.std.specs.Prelude.{◌≡◌, cond, ℕ, zero, suc, ◌+◌, ◌-◌, List, length, leb, Result}
+use Rattle.refusals.specs.Refusal.{field_past_file}
+use Rattle.refusals.specs.declared.Refusal.{Refusal}
+use Rattle.fields.specs.Answer.{Answer, refused, next, accepted}
+use Rattle.fields.specs.Number.{word_at}
+use Rattle.fields.specs.declared.Order.{Order}
+use Rattle.dat_read.specs.Steps.{step_meaning}
 
-abbrev pub sections_meaning : SectionsStep → Answer (SectionParts × ℕ)
-sections_meaning (Found p m) = accepted (p, m)
-sections_meaning (Refused n) = refused n
+-- what is answered at a place is what `step` says of it
+abbrev pub StepsAs : (ℕ → Answer (Unit {0} × ℕ)) → (ℕ → Result ℕ Refusal → Type 0) → Type 0
+StepsAs step answers = (at : ℕ) (r : Result ℕ Refusal) → answers at r → step_meaning r ≡ step at
+
+-- n steps, each from where the one before it ended
+abbrev pub repeat : ℕ → (ℕ → Answer (Unit {0} × ℕ)) → ℕ → Answer (Unit {0} × ℕ)
+repeat zero step at = accepted (tt, at)
+repeat (suc n) step at = next (step at) (λ r. repeat n step r.1)
+
+-- a count at `at`, and that many steps behind it
+abbrev pub counted_by : Order → (ℕ → Answer (Unit {0} × ℕ)) → List ℕ → ℕ → Answer (Unit {0} × ℕ)
+counted_by o step s at = cond (leb 4 (length s - at)) (repeat (word_at o 4 s at) step (at + 4)) (refused field_past_file)

@@ -3,153 +3,111 @@
 
 ghost use Rattle.std.specs.Prelude.{◌≡◌, ◌≤◌, length};
 ghost use Rattle.fields.specs.Reader.{seen_at, pass_at};
-ghost use Rattle.dat_format.specs.Pieces.{after, sized, times, counted, name};
+ghost use Rattle.fields.specs.Meaning.{answer_of};
+ghost use Rattle.dat_format.specs.Pieces.{after, sized, counted, name};
 ghost use Rattle.dat_format.specs.Decode.{system, sections};
 ghost use Rattle.dat_read.specs.Steps.{step_meaning};
 ghost use Rattle.dat_read.specs.Summary.{section_parts};
-ghost use Rattle.dat_sections.specs.Steps.{sections_meaning};
+ghost use Rattle.dat_sections.specs.Steps.{StepsAs, counted_by};
 
-use dat_read::pieces::{Step, Width};
+use dat_read::pieces::Width;
 use dat_read::summary::SectionParts;
 use dat_read::{pieces, summary};
 use fields::Order;
-use refusals::FIELD_PAST_FILE;
+use refusals::Refusal;
+
+// Each step but the last answers the place after what it read.
 
 // A fixed string at `at`, an 8-byte size, and that many bytes.
-fn piece_at<'a>(s: &'a [u8], order: Order, word: &'a [u8], at: usize) -> Step
+fn piece_at<'a>(s: &'a [u8], order: Order, word: &'a [u8], at: usize) -> Result<usize, Refusal>
     requires { at ≤ length s.now }
     ensures { step_meaning result ≡ pass_at (after word.now (sized order 8)) s.now at }
 {
-    match pieces::fixed_at(s, word, at) {
-        Step::Refused(n) => Step::Refused(n),
-        Step::Next(next) => pieces::sized_at(s, order, Width::Eight, next),
-    }
+    let size = pieces::fixed_at(s, word, at)?;
+    pieces::sized_at(s, order, Width::Eight, size)
 }
 
-// n formats from `from` on.
-fn formats_from(s: &[u8], order: Order, n: u32, from: usize) -> Step
-    requires { from ≤ length s.now }
-    ensures { step_meaning result ≡ pass_at (times n (sized order 8)) s.now from }
+// A count at `at`, and that many elements, each read by `element`.
+fn counted_at<F: Fn(usize) -> Result<usize, Refusal>>(
+    s: &[u8],
+    order: Order,
+    at: usize,
+    element: F,
+) -> Result<usize, Refusal>
+    requires inside { at ≤ length s.now }
+    requires callable { F.IsAlwaysCallable element }
+    ensures { (g : _) → StepsAs g (F.post element) → step_meaning result ≡ counted_by order g s.now at }
 {
-    let mut at = from;
-    let mut left = n;
-    while 0 < left {
-        match pieces::sized_at(s, order, Width::Eight, at) {
-            Step::Refused(k) => {
-                return Step::Refused(k);
-            }
-            Step::Next(next) => {
-                at = next;
-            }
-        }
-        left -= 1;
+    if s.len() - at < 4 {
+        return Err(Refusal::FieldPastFile);
     }
-    Step::Next(at)
+    let mut next = at + 4;
+    for _ in 0..fields::u32_at(s, order, at) {
+        next = element(next)?;
+    }
+    Ok(next)
 }
 
 // A count at `at`, and that many formats.
-fn formats_at(s: &[u8], order: Order, at: usize) -> Step
+fn formats_at(s: &[u8], order: Order, at: usize) -> Result<usize, Refusal>
     requires { at ≤ length s.now }
     ensures { step_meaning result ≡ pass_at (counted order (sized order 8)) s.now at }
 {
-    if s.len() - at < 4 {
-        return Step::Refused(FIELD_PAST_FILE);
-    }
-    formats_from(s, order, fields::u32_at(s, order, at), at + 4)
+    counted_at(
+        s,
+        order,
+        at,
+        |at| pieces::sized_at(s, order, Width::Eight, at),
+    )
 }
 
-// A name that starts at `from`, and its NUL.
-fn name_at(s: &[u8], from: usize) -> Step
-    requires { from ≤ length s.now }
-    ensures { step_meaning result ≡ pass_at name s.now from }
+// A name at `at`, and its NUL.
+#[tactic(auto, using(crate::proofs::ElementLaws::name_none, crate::proofs::ElementLaws::name_here, crate::proofs::ElementLaws::name_more))]
+fn name_at(s: &[u8], at: usize) -> Result<usize, Refusal>
+    ensures { step_meaning result ≡ pass_at name s.now at }
 {
-    let mut at = from;
-    while at < s.len() {
-        if s[at] == 0 {
-            return Step::Next(at + 1);
+    for i in at..s.len() {
+        if s[i] == 0 {
+            return Ok(i + 1);
         }
-        at += 1;
     }
-    Step::Refused(FIELD_PAST_FILE)
+    Err(Refusal::FieldPastFile)
 }
 
 // A system at `at`: its name and its formats.
-fn system_at(s: &[u8], order: Order, at: usize) -> Step
-    requires { at ≤ length s.now }
+fn system_at(s: &[u8], order: Order, at: usize) -> Result<usize, Refusal>
     ensures { step_meaning result ≡ pass_at (system order) s.now at }
 {
-    match name_at(s, at) {
-        Step::Refused(n) => Step::Refused(n),
-        Step::Next(next) => formats_at(s, order, next),
-    }
-}
-
-// n systems from `from` on.
-fn systems_from(s: &[u8], order: Order, n: u32, from: usize) -> Step
-    requires { from ≤ length s.now }
-    ensures { step_meaning result ≡ pass_at (times n (system order)) s.now from }
-{
-    let mut at = from;
-    let mut left = n;
-    while 0 < left {
-        match system_at(s, order, at) {
-            Step::Refused(k) => {
-                return Step::Refused(k);
-            }
-            Step::Next(next) => {
-                at = next;
-            }
-        }
-        left -= 1;
-    }
-    Step::Next(at)
+    let formats = name_at(s, at)?;
+    formats_at(s, order, formats)
 }
 
 // A count at `at`, and that many systems.
-fn systems_at(s: &[u8], order: Order, at: usize) -> Step
+fn systems_at(s: &[u8], order: Order, at: usize) -> Result<usize, Refusal>
     requires { at ≤ length s.now }
     ensures { step_meaning result ≡ pass_at (counted order (system order)) s.now at }
 {
-    if s.len() - at < 4 {
-        return Step::Refused(FIELD_PAST_FILE);
-    }
-    systems_from(s, order, fields::u32_at(s, order, at), at + 4)
+    counted_at(s, order, at, |at| system_at(s, order, at))
 }
 
-#[derive(Clone, Copy)]
-pub enum SectionsStep {
-    Found { sections: SectionParts, next: usize },
-    Refused(u8),
-}
-
-// The sections from `header_page` through the systems.
-pub fn sections_at(s: &[u8], order: Order, at: usize) -> SectionsStep
-    ensures { sections_meaning result ≡ seen_at (section_parts order) (sections order) s.now at }
+// The sections from `header_page` through the systems, and the place after them.
+pub fn sections_at(s: &[u8], order: Order, at: usize) -> Result<(SectionParts, usize), Refusal>
+    ensures { answer_of result ≡ seen_at (section_parts order) (sections order) s.now at }
 {
     if s.len() < at {
-        return SectionsStep::Refused(FIELD_PAST_FILE);
+        return Err(Refusal::FieldPastFile);
     }
-    match piece_at(s, order, b"header_page\0", at) {
-        Step::Refused(n) => SectionsStep::Refused(n),
-        Step::Next(a) => match piece_at(s, order, b"header_event\0", a) {
-            Step::Refused(n) => SectionsStep::Refused(n),
-            Step::Next(b) => match formats_at(s, order, b) {
-                Step::Refused(n) => SectionsStep::Refused(n),
-                Step::Next(c) => match systems_at(s, order, c) {
-                    Step::Refused(n) => SectionsStep::Refused(n),
-                    Step::Next(d) => SectionsStep::Found {
-                        sections: SectionParts {
-                            header_page: summary::span(at + 20, a),
-                            header_event: summary::span(a + 21, b),
-                            formats: summary::span(b + 4, c),
-                            systems: summary::span(c + 4, d),
-                            format_count: fields::u32_at(s, order, b),
-                            system_count: fields::u32_at(s, order, c),
-                        },
-                        next: d,
-                    },
-                },
-            },
-        },
-    }
+    let event = piece_at(s, order, b"header_page\0", at)?;
+    let formats = piece_at(s, order, b"header_event\0", event)?;
+    let systems = formats_at(s, order, formats)?;
+    let end = systems_at(s, order, systems)?;
+    let sections = SectionParts {
+        header_page: summary::span(at + 20, event),
+        header_event: summary::span(event + 21, formats),
+        formats: summary::span(formats + 4, systems),
+        systems: summary::span(systems + 4, end),
+        format_count: fields::u32_at(s, order, formats),
+        system_count: fields::u32_at(s, order, systems),
+    };
+    Ok((sections, end))
 }

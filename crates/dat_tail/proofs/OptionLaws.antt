@@ -1,14 +1,7 @@
 -- What the steps over the options and over the CPU entries answer in each case that the code tells apart.
 -- Assumes nothing.
-use mathlib.Core.Path.{◌≡◌, refl, sym, ap, ◌∙◌}
-use mathlib.Core.Bool.{Bool, true, false, cond}
-use Prim.Native.Nat.{ℕ, zero, suc, ◌+◌, ◌-◌, ◌*◌, ◌<◌, ◌≤◌}
-use native.Mathlib.Nat.{le_refl}
-use native.Mathlib.Omega.{arith}
-use mathlib.Core.List.{List, [], ◌∷◌}
-use lib.ListN.{length, take, drop, length-drop}
-use lib.Dec.{eqb}
-use borrow.Author.Tests.{ne_eqb}
+use Rattle.std.specs.Prelude.{◌≡◌, ◌≢◌, refl, Bool, true, false, cond, ℕ, zero, suc, ◌+◌, ◌-◌, ◌*◌, ◌<◌, ◌≤◌, List, [], ◌∷◌, length, take, drop, eqb}
+use Rattle.std.proofs.Common.{sym, ap, ◌∙◌, le_refl, arith, length-drop, ne_eqb}
 use Rattle.refusals.specs.Refusal.{field_past_file}
 use Rattle.fields.specs.Number.{Bytes, number, word_at, word_in_lem}
 use Rattle.fields.specs.Answer.{accepted, refused, next, next_cong}
@@ -22,10 +15,7 @@ use Rattle.dat_format.specs.Header.{Opt}
 use Rattle.dat_format.specs.Decode.{options_f, options, range}
 use Rattle.dat_format.specs.Entries.{entries-read, entries-short}
 use Rattle.dat_format.specs.ExactPieces.{exact_sized}
-use Rattle.dat_read.specs.Steps.{step_meaning}
 use Rattle.dat_read.specs.Read.{stopped, gone_on, Going, Sized, sized-end}
-use Rattle.dat_read.specs.declared.pieces.Step.{Step}
-use Rattle.dat_read.specs.declared.pieces.Step.TheVariants.{Next, Refused}
 
 -- ---- the count of the reading
 
@@ -66,11 +56,6 @@ options_eq o b = same_fuel o (length b) (suc (length b)) b (le_refl (length b)) 
 
 -- ---- a walk over the options, which stands at `at`
 
--- an option was read, up to m
-pub record Turned (o : Order) (s : List ℕ) (from at m : ℕ) : Type 0 where
-  pub further : at < m
-  pub going : Going (options o) s from m
-
 module _ (o : Order) {s : List ℕ} {from at : ℕ} (w : Going (options o) s from at) where
   pub options-none : length s - at < 2 → refused field_past_file ≡ pass_at (options o) s from
   options-none l =
@@ -87,7 +72,7 @@ module _ (o : Order) {s : List ℕ} {from at : ℕ} (w : Going (options o) s fro
         rw (options_eq o (drop at s), num-at s at o 2 field_past_file w.inside l, ← type_is, z, place_of s (at + 2) (omega (arith, w.inside))) in
         e ∙ w.same
 
-    module _ (z : t ≡ 0 → ⊥) where
+    module _ (z : t ≢ 0) where
       turn_is : (m : ℕ) → Sized o 4 s (at + 2) m → at < m → pass_at (options o) s m ≡ pass_at (options o) s at
       unfolding options
       turn_is m g k =
@@ -98,19 +83,22 @@ module _ (o : Order) {s : List ℕ} {from at : ℕ} (w : Going (options o) s fro
           ∙ rw (options_eq o (drop at s), num-at s at o 2 field_past_file w.inside l, ← type_is, ne_eqb t 0 z, g.reads)
           (sym (shown_of {B = List Opt} (λ a. tt) (length s) more (λ l. record { type = t; body = g.value } ∷ l)))
 
-      module _ {r : Step} where
-        pub options-stop : {n : ℕ} → r ≡ Refused n → step_meaning r ≡ pass_at (sized o 4) s (at + 2) → refused n ≡ pass_at (options o) s from
-        options-stop {n} e h =
-            let q = stopped (sized o 4) s (at + 2) e h in
-            let f : refused n ≡ pass_at (options o) s at =
-            rw (options_eq o (drop at s), num-at s at o 2 field_past_file w.inside l, ← type_is, ne_eqb t 0 z, q) in
-            f ∙ w.same
+      pub options_stop : {n : ℕ} → refused n ≡ pass_at (sized o 4) s (at + 2) → refused n ≡ pass_at (options o) s from
+      options_stop {n} e =
+          let q = stopped (sized o 4) s (at + 2) e in
+          let f : refused n ≡ pass_at (options o) s at =
+          rw (options_eq o (drop at s), num-at s at o 2 field_past_file w.inside l, ← type_is, ne_eqb t 0 z, q) in
+          f ∙ w.same
 
-        pub options-turn : Bytes s → {m : ℕ} → r ≡ Next m → step_meaning r ≡ pass_at (sized o 4) s (at + 2) → Turned o s from at m
-        options-turn b {m} e h =
-            let g : Sized o 4 s (at + 2) m = gone_on (exact_sized o 4) b (omega (arith, w.inside)) e h in
-            let k : at < m = omega (arith, sized-end o 4 s (at + 2) m g) in
-            record { further = k; going = record { inside = g.inside; same = turn_is m g k ∙ w.same } }
+      module _ (b : Bytes s) {m : ℕ} (e : accepted (tt, m) ≡ pass_at (sized o 4) s (at + 2)) where
+        option : Sized o 4 s (at + 2) m
+        option = gone_on (exact_sized o 4) b (omega (arith, w.inside)) e
+
+        pub options_further : at < m
+        options_further = omega (arith, sized-end o 4 s (at + 2) m option)
+
+        pub options_turn : Going (options o) s from m
+        options_turn = record { inside = option.inside; same = turn_is m option options_further ∙ w.same }
 
 -- ---- the entries
 

@@ -1,27 +1,23 @@
 -- What the steps of the opening answer in each case that the code tells apart.
 -- Assumes nothing.
-use mathlib.Core.Path.{◌≡◌, refl, ◌∙◌}
-use mathlib.Core.Bool.{true, false}
-use Prim.Native.Nat.{ℕ, zero, suc, ◌+◌, ◌-◌, ◌<◌, ◌≤◌}
-use native.Mathlib.Omega.{arith}
-use mathlib.Core.List.{List}
-use lib.ListN.{length, take, drop, get_or}
+use Rattle.std.specs.Prelude.{◌≡◌, refl, true, false, ℕ, zero, suc, ◌+◌, ◌-◌, ◌<◌, ◌≤◌, List, length, take, drop, get_or, Ok}
+use Rattle.std.specs.Result.{IsErr}
+use Rattle.std.proofs.Common.{◌∙◌, arith}
 use Rattle.refusals.specs.Refusal.{field_past_file, bad_constant}
-use Rattle.fields.specs.Number.{number, word_at, word_in_lem}
+use Rattle.fields.specs.Number.{Bytes, number, word_at, word_in_lem}
 use Rattle.fields.specs.Answer.{Answer, accepted, refused}
 use Rattle.fields.specs.Reader.{seen_at, pass_at}
 use Rattle.fields.specs.At.{byte_at, num-short, num-at, place_of}
+use Rattle.fields.specs.Orders.{order_numbered}
 use Rattle.fields.specs.declared.Order.{Order}
-use Rattle.fields.specs.declared.Order.TheVariants.{Little, Big}
+use Rattle.fields.specs.declared.Order.TheVariants.{Little}
 use Rattle.dat_format.specs.Pieces.{fixed}
 use Rattle.dat_format.specs.Header.{magic, tracing, version}
 use Rattle.dat_format.specs.Tests.{is_long, is_page}
 use Rattle.dat_format.specs.Decode.{order_in, sizes, flags, opening}
-use Rattle.dat_read.specs.Steps.{step_meaning}
+use Rattle.dat_format.specs.ExactPieces.{exact_fixed}
 use Rattle.dat_read.specs.Summary.{flags_seen}
-use Rattle.dat_read.specs.Read.{stopped, Fixed}
-use Rattle.dat_read.specs.declared.pieces.Step.{Step}
-use Rattle.dat_read.specs.declared.pieces.Step.TheVariants.{Refused}
+use Rattle.dat_read.specs.Read.{Fixed, stopped, gone_on}
 use Rattle.dat_read.specs.declared.summary.Flags.{Flags}
 
 -- ---- long size and page size
@@ -66,10 +62,15 @@ module _ (s : List ℕ) (o : Order) (at : ℕ) where
 
 -- ---- the byte order before them
 
-order_not : (n : ℕ) (b : List ℕ) → (n ≡ 0 → ⊥) → (n ≡ 1 → ⊥) → order_in n b ≡ refused bad_constant
-order_not zero b e f = absurd (e refl)
-order_not (suc zero) b e f = absurd (f refl)
-order_not (suc (suc n)) b e f = refl
+order_read : (n : ℕ) (b : List ℕ) {o : Order} → order_numbered n ≡ Ok o → order_in n b ≡ accepted (o, b)
+order_read zero b e = cc
+order_read (suc zero) b e = cc
+order_read (suc (suc n)) b e = cc
+
+order_not : (n : ℕ) (b : List ℕ) → IsErr (order_numbered n) → order_in n b ≡ refused bad_constant
+order_not zero b e = cc
+order_not (suc zero) b e = cc
+order_not (suc (suc n)) b e = refl
 
 module _ (s : List ℕ) (at : ℕ) where
   abbrev FlagsAre : Answer (Flags × ℕ) → Type 0
@@ -80,38 +81,44 @@ module _ (s : List ℕ) (at : ℕ) where
   no-order l = rw (num-short s at Little 1 field_past_file (omega arith))
 
   module _ (l : at < length s) where
-    pub is-little : get_or s at 0 ≡ 0 → {x : Answer (Flags × ℕ)} → x ≡ seen_at flags_seen (sizes Little) s (at + 1) → FlagsAre x
+    pub bad_order : IsErr (order_numbered (get_or s at 0)) → FlagsAre (refused bad_constant)
     unfolding flags
-    is-little e f = f ∙ rw (byte_at s at field_past_file l, e)
+    bad_order e = rw (byte_at s at field_past_file l, order_not (get_or s at 0) (drop (at + 1) s) e)
 
-    pub is-big : get_or s at 0 ≡ 1 → {x : Answer (Flags × ℕ)} → x ≡ seen_at flags_seen (sizes Big) s (at + 1) → FlagsAre x
+    pub with_order : {o : Order} → order_numbered (get_or s at 0) ≡ Ok o → {x : Answer (Flags × ℕ)} → x ≡ seen_at flags_seen (sizes o) s (at + 1) → FlagsAre x
     unfolding flags
-    is-big e f = f ∙ rw (byte_at s at field_past_file l, e)
-
-    pub bad-order : (get_or s at 0 ≡ 0 → ⊥) → (get_or s at 0 ≡ 1 → ⊥) → FlagsAre (refused bad_constant)
-    unfolding flags
-    bad-order e f = rw (byte_at s at field_past_file l, order_not (get_or s at 0) (drop (at + 1) s) e f)
+    with_order e k = k ∙ rw (byte_at s at field_past_file l, order_read (get_or s at 0) (drop (at + 1) s) e)
 
 -- ---- the three strings before these
 
-module _ (s : List ℕ) where
+module _ (s : List ℕ) (bytes : Bytes s) where
   abbrev Opens : Answer (Flags × ℕ) → Type 0
   Opens x = x ≡ seen_at flags_seen opening s 0
 
-  pub bad-magic : {r : Step} {n : ℕ} → r ≡ Refused n → step_meaning r ≡ pass_at (fixed magic) s 0 → Opens (refused n)
+  pub bad_magic : {n : ℕ} → refused n ≡ pass_at (fixed magic) s 0 → Opens (refused n)
   unfolding opening
-  bad-magic e h = rw (stopped (fixed magic) s 0 e h)
+  bad_magic e = rw (stopped (fixed magic) s 0 e)
 
-  module _ {a : ℕ} (ga : Fixed magic s 0 a) where
-    pub bad-tracing : {r : Step} {n : ℕ} → r ≡ Refused n → step_meaning r ≡ pass_at (fixed tracing) s a → Opens (refused n)
+  module _ {a : ℕ} (ea : accepted (tt, a) ≡ pass_at (fixed magic) s 0) where
+    first : Fixed magic s 0 a
+    first = gone_on (exact_fixed magic) bytes (omega arith) ea
+
+    pub bad_tracing : {n : ℕ} → refused n ≡ pass_at (fixed tracing) s a → Opens (refused n)
     unfolding opening
-    bad-tracing e h = rw (ga.reads, stopped (fixed tracing) s a e h)
+    bad_tracing e = rw (first.reads, stopped (fixed tracing) s a e)
 
-    module _ {b : ℕ} (gb : Fixed tracing s a b) where
-      pub bad-version : {r : Step} {n : ℕ} → r ≡ Refused n → step_meaning r ≡ pass_at (fixed version) s b → Opens (refused n)
-      unfolding opening
-      bad-version e h = rw (ga.reads, gb.reads, stopped (fixed version) s b e h)
+    module _ {b : ℕ} (eb : accepted (tt, b) ≡ pass_at (fixed tracing) s a) where
+      second : Fixed tracing s a b
+      second = gone_on (exact_fixed tracing) bytes first.inside eb
 
-      pub opening-read : {c : ℕ} → Fixed version s b c → {x : Answer (Flags × ℕ)} → x ≡ seen_at flags_seen flags s c → Opens x
+      pub bad_version : {n : ℕ} → refused n ≡ pass_at (fixed version) s b → Opens (refused n)
       unfolding opening
-      opening-read gc e = e ∙ rw (ga.reads, gb.reads, gc.reads)
+      bad_version e = rw (first.reads, second.reads, stopped (fixed version) s b e)
+
+      module _ {c : ℕ} (ec : accepted (tt, c) ≡ pass_at (fixed version) s b) where
+        third : Fixed version s b c
+        third = gone_on (exact_fixed version) bytes second.inside ec
+
+        pub opening_read : {x : Answer (Flags × ℕ)} → x ≡ seen_at flags_seen flags s c → Opens x
+        unfolding opening
+        opening_read e = e ∙ rw (first.reads, second.reads, third.reads)

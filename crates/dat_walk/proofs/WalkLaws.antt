@@ -1,14 +1,10 @@
 -- What the walk answers in each case that the code tells apart: each part's answer is the whole's.
 -- Assumes nothing.
-use mathlib.Core.Path.{◌≡◌, sym, ap, ◌∙◌, subst}
-use Prim.Native.Nat.{ℕ, ◌+◌}
-use native.Mathlib.Omega.{arith}
-use mathlib.Core.List.{List}
-use lib.ListN.{length, drop, length-append, length-drop}
+use Rattle.std.specs.Prelude.{◌≡◌, ℕ, ◌+◌, List, length, drop}
+use Rattle.std.proofs.Common.{sym, ap, ◌∙◌, subst, arith, length-append, length-drop}
 use Rattle.fields.specs.Number.{Bytes}
 use Rattle.fields.specs.Answer.{Answer, accepted, refused}
 use Rattle.fields.specs.Reader.{seen_at}
-use Rattle.fields.specs.Given.{at_case}
 use Rattle.fields.specs.Got.{Got, not_read, got, seen}
 use Rattle.fields.specs.declared.Order.{Order}
 use Rattle.dat_format.specs.Header.{Header, put_opening, put_sections, put_texts, put_tail, encode}
@@ -18,18 +14,6 @@ use Rattle.dat_format.specs.ExactSections.{exact_opening, exact_sections, exact_
 use Rattle.dat_format.specs.ExactTail.{exact_tail}
 use Rattle.dat_format.specs.Exactness.{exact_header}
 use Rattle.dat_read.specs.Summary.{flags_seen, section_parts, text_parts, body_of, tail_parts, summary, summary_seen}
-use Rattle.dat_sections.specs.Steps.{sections_meaning}
-use Rattle.dat_texts.specs.Steps.{texts_meaning}
-use Rattle.dat_tail.specs.Steps.{tail_meaning}
-use Rattle.dat_walk.specs.Steps.{opening_meaning}
-use Rattle.dat_walk.specs.declared.opening.OpeningStep.{OpeningStep}
-use Rattle.dat_walk.specs.declared.opening.OpeningStep.TheVariants as openingstep
-use Rattle.dat_sections.specs.declared.SectionsStep.{SectionsStep}
-use Rattle.dat_sections.specs.declared.SectionsStep.TheVariants as sectionsstep
-use Rattle.dat_texts.specs.declared.TextsStep.{TextsStep}
-use Rattle.dat_texts.specs.declared.TextsStep.TheVariants as textsstep
-use Rattle.dat_tail.specs.declared.TailStep.{TailStep}
-use Rattle.dat_tail.specs.declared.TailStep.TheVariants as tailstep
 use Rattle.dat_read.specs.declared.summary.Part.{Part}
 use Rattle.dat_read.specs.declared.summary.Flags.{Flags}
 use Rattle.dat_read.specs.declared.summary.SectionParts.{SectionParts}
@@ -49,159 +33,93 @@ module _ (len : ℕ) (h : Header) (f : Flags) (ps : SectionParts) (ts : TextPart
   unfolding summary
   summary-is ea eb ec en ef es et el e = rw (e, ← el, ea, eb, ec, en, ef, es, et)
 
--- ---- the walk
+-- ---- the walk: the first stretch that is refused refuses the header
 
-abbrev Answers : List ℕ → Answer (Summary × ℕ) → Type 0
-Answers s x = x ≡ seen_at (summary_seen (length s)) header s 0
+module _ (s : List ℕ) (bytes : Bytes s) where
+  abbrev Walks : Answer (Summary × ℕ) → Type 0
+  Walks x = x ≡ seen_at (summary_seen (length s)) header s 0
 
--- what was read up to a place, and what is shown of it
-pub record Opened (s : List ℕ) (f : Flags) (a : ℕ) : Type 0 where
-  pub bytes : Bytes s
-  pub got : Got opening OpeningFits put_opening s 0 a
-  pub shown : flags_seen 0 got.value ≡ f
-
-abbrev order_in : {s : List ℕ} {f : Flags} {a : ℕ} → Opened s f a → Order
-order_in p = p.got.value.order
-
-pub record Sectioned (s : List ℕ) (f : Flags) (a : ℕ) (ps : SectionParts) (b : ℕ) : Type 0 where
-  pub opened : Opened s f a
-  pub got : Got (sections (order_in opened)) SectionsFit (put_sections (order_in opened)) s a b
-  pub shown : section_parts (order_in opened) a got.value ≡ ps
-
-pub record Texted (s : List ℕ) (f : Flags) (a : ℕ) (ps : SectionParts) (b : ℕ) (ts : TextParts) (c : ℕ) : Type 0 where
-  pub sectioned : Sectioned s f a ps b
-  pub got : Got (texts (order_in sectioned.opened)) TextsFit (put_texts (order_in sectioned.opened)) s b c
-  pub shown : text_parts b got.value ≡ ts
-
-module _ {s : List ℕ} {f : Flags} {a : ℕ} {ps : SectionParts} {b : ℕ} {ts : TextParts} {c : ℕ} (t : Texted s f a ps b ts c) where
-  abbrev order_of : Order
-  order_of = order_in t.sectioned.opened
-
-  abbrev cpus_in : ℕ
-  cpus_in = t.got.value.cpus
-
-pub record Tailed (s : List ℕ) (f : Flags) (a : ℕ) (ps : SectionParts) (b : ℕ) (ts : TextParts) (c : ℕ) (tp : TailParts) (end : ℕ) : Type 0 where
-  pub texted : Texted s f a ps b ts c
-  pub got : Got (tail (order_of texted) (cpus_in texted)) (TailFits (cpus_in texted)) (put_tail (order_of texted)) s c end
-  pub shown : tail_parts (order_of texted) c got.value ≡ tp
-
-module _ (s : List ℕ) {r : OpeningStep} where
-  pub bad-opening : {n : ℕ} → r ≡ openingstep.Refused n → opening_meaning r ≡ seen_at flags_seen opening s 0 → Answers s (refused n)
+  pub bad_opening : {n : ℕ} → refused n ≡ seen_at flags_seen opening s 0 → Walks (refused n)
   unfolding header
-  bad-opening {n} e h = rw (not_read flags_seen opening s 0 n (at_case opening_meaning e h))
+  bad_opening {n} e = rw (not_read flags_seen opening s 0 n e)
 
-  pub opened : Bytes s → {f : Flags} {a : ℕ} → r ≡ openingstep.Found f a → opening_meaning r ≡ seen_at flags_seen opening s 0 → Opened s f a
-  opened hb {f} {a} e h =
-      let g = got exact_opening s hb 0 (omega arith) flags_seen f a (at_case opening_meaning e h) in
-      record { bytes = hb; got = g.0; shown = g.1 }
+  module _ {f : Flags} {a : ℕ} (eo : accepted (f, a) ≡ seen_at flags_seen opening s 0) where
+    opened : (g : Got opening OpeningFits put_opening s 0 a) × (flags_seen 0 g.value ≡ f)
+    opened = got exact_opening s bytes 0 (omega arith) flags_seen f a eo
 
-module _ {s : List ℕ} {f : Flags} {a : ℕ} (p : Opened s f a) where
-  abbrev o : Order
-  o = order_in p
+    abbrev o : Order
+    o = opened.0.value.order
 
-  order_is : f.order ≡ o
-  order_is = ap (λ f. f.order) (sym p.shown)
+    -- the flags' order is the one that was read
+    order_is : f.order ≡ o
+    order_is = ap (λ f. f.order) (sym opened.1)
 
-  abbrev Seen : Order → Answer (SectionParts × ℕ) → Type 0
-  Seen o x = x ≡ seen_at (section_parts o) (sections o) s a
+    abbrev SeenSections : Order → Answer (SectionParts × ℕ) → Type 0
+    SeenSections o x = x ≡ seen_at (section_parts o) (sections o) s a
 
-  -- what was seen under the flags' order was seen under the opening's
-  seen-sections : (x : Answer (SectionParts × ℕ)) → Seen f.order x → Seen o x
-  seen-sections x = subst (λ o. Seen o x) order_is
+    by_order : {x : Answer (SectionParts × ℕ)} → SeenSections f.order x → SeenSections o x
+    by_order {x} = subst (λ o. SeenSections o x) order_is
 
-  module _ {r : SectionsStep} where
-    pub bad-sections : {n : ℕ} → r ≡ sectionsstep.Refused n → Seen f.order (sections_meaning r) → Answers s (refused n)
+    pub bad_sections : {n : ℕ} → refused n ≡ seen_at (section_parts f.order) (sections f.order) s a → Walks (refused n)
     unfolding header
-    bad-sections {n} e h =
-        rw (p.got.reads, not_read (section_parts o) (sections o) s a n (seen-sections (refused n) (at_case sections_meaning e h)))
+    bad_sections {n} e = rw (opened.0.reads, not_read (section_parts o) (sections o) s a n (by_order e))
 
-    pub sectioned : {ps : SectionParts} {b : ℕ} → r ≡ sectionsstep.Found ps b → Seen f.order (sections_meaning r) → Sectioned s f a ps b
-    sectioned {ps} {b} e h =
-        let k = seen-sections (accepted (ps, b)) (at_case sections_meaning e h) in
-        let g = got (exact_sections o) s p.bytes a p.got.inside (section_parts o) ps b k in
-        record { opened = p; got = g.0; shown = g.1 }
+    module _ {ps : SectionParts} {b : ℕ} (es : accepted (ps, b) ≡ seen_at (section_parts f.order) (sections f.order) s a) where
+      sectioned : (g : Got (sections o) SectionsFit (put_sections o) s a b) × (section_parts o a g.value ≡ ps)
+      sectioned = got (exact_sections o) s bytes a opened.0.inside (section_parts o) ps b (by_order es)
 
-module _ {s : List ℕ} {f : Flags} {a : ℕ} {ps : SectionParts} {b : ℕ} (q : Sectioned s f a ps b) where
-  abbrev p : Opened s f a
-  p = q.opened
+      abbrev SeenTexts : Order → Answer (TextParts × ℕ) → Type 0
+      SeenTexts o x = x ≡ seen_at text_parts (texts o) s b
 
-  abbrev SeenTexts : Order → Answer (TextParts × ℕ) → Type 0
-  SeenTexts o x = x ≡ seen_at text_parts (texts o) s b
+      texts_by_order : {x : Answer (TextParts × ℕ)} → SeenTexts f.order x → SeenTexts o x
+      texts_by_order {x} = subst (λ o. SeenTexts o x) order_is
 
-  seen-texts : (x : Answer (TextParts × ℕ)) → SeenTexts f.order x → SeenTexts (order_in p) x
-  seen-texts x = subst (λ o. SeenTexts o x) (order_is p)
+      pub bad_texts : {n : ℕ} → refused n ≡ seen_at text_parts (texts f.order) s b → Walks (refused n)
+      unfolding header
+      bad_texts {n} e = rw (opened.0.reads, sectioned.0.reads, not_read text_parts (texts o) s b n (texts_by_order e))
 
-  module _ {r : TextsStep} where
-    pub bad-texts : {n : ℕ} → r ≡ textsstep.Refused n → SeenTexts f.order (texts_meaning r) → Answers s (refused n)
-    unfolding header
-    bad-texts {n} e h =
-        rw (p.got.reads, q.got.reads, not_read text_parts (texts (order_in p)) s b n (seen-texts (refused n) (at_case texts_meaning e h)))
+      module _ {ts : TextParts} {c : ℕ} (et : accepted (ts, c) ≡ seen_at text_parts (texts f.order) s b) where
+        texted : (g : Got (texts o) TextsFit (put_texts o) s b c) × (text_parts b g.value ≡ ts)
+        texted = got (exact_texts o) s bytes b sectioned.0.inside text_parts ts c (texts_by_order et)
 
-    pub texted : {ts : TextParts} {c : ℕ} → r ≡ textsstep.Found ts c → SeenTexts f.order (texts_meaning r) → Texted s f a ps b ts c
-    texted {ts} {c} e h =
-        let k = seen-texts (accepted (ts, c)) (at_case texts_meaning e h) in
-        let g = got (exact_texts (order_in p)) s p.bytes b q.got.inside text_parts ts c k in
-        record { sectioned = q; got = g.0; shown = g.1 }
+        abbrev n : ℕ
+        n = texted.0.value.cpus
 
-module _ {s : List ℕ} {f : Flags} {a : ℕ} {ps : SectionParts} {b : ℕ} {ts : TextParts} {c : ℕ} (t : Texted s f a ps b ts c) where
-  abbrev q : Sectioned s f a ps b
-  q = t.sectioned
+        -- the count that is shown is the one that was read
+        cpus_are : ts.cpus ≡ n
+        cpus_are = ap (λ t. t.cpus) (sym texted.1)
 
-  abbrev ot : Order
-  ot = order_of t
+        abbrev SeenTail : Order → ℕ → Answer (TailParts × ℕ) → Type 0
+        SeenTail o n x = x ≡ seen_at (tail_parts o) (tail o n) s c
 
-  abbrev n : ℕ
-  n = cpus_in t
+        tail_by_both : {x : Answer (TailParts × ℕ)} → SeenTail f.order ts.cpus x → SeenTail o n x
+        tail_by_both {x} e = subst (λ n. SeenTail o n x) cpus_are (subst (λ o. SeenTail o ts.cpus x) order_is e)
 
-  cpus_are : ts.cpus ≡ n
-  cpus_are = ap (λ t. t.cpus) (sym t.shown)
+        pub bad_tail : {k : ℕ} → refused k ≡ seen_at (tail_parts f.order) (tail f.order ts.cpus) s c → Walks (refused k)
+        unfolding header
+        bad_tail {k} e = rw (opened.0.reads, sectioned.0.reads, texted.0.reads, not_read (tail_parts o) (tail o n) s c k (tail_by_both e))
 
-  abbrev SeenTail : Order → ℕ → Answer (TailParts × ℕ) → Type 0
-  SeenTail o n x = x ≡ seen_at (tail_parts o) (tail o n) s c
+        module _ {tp : TailParts} {end : ℕ} (el : accepted (tp, end) ≡ seen_at (tail_parts f.order) (tail f.order ts.cpus) s c) where
+          tailed : (g : Got (tail o n) (TailFits n) (put_tail o) s c end) × (tail_parts o c g.value ≡ tp)
+          tailed = got (exact_tail o n) s bytes c texted.0.inside (tail_parts o) tp end (tail_by_both el)
 
-  seen-tail : (x : Answer (TailParts × ℕ)) → SeenTail f.order ts.cpus x → SeenTail ot n x
-  seen-tail x e = subst (λ n. SeenTail ot n x) cpus_are (subst (λ o. SeenTail o ts.cpus x) (order_is q.opened) e)
+          abbrev whole : Header
+          whole = record { opening = opened.0.value; sections = sectioned.0.value; texts = texted.0.value; tail = tailed.0.value }
 
-  module _ {r : TailStep} where
-    pub bad-tail : {k : ℕ} → r ≡ tailstep.Refused k → SeenTail f.order ts.cpus (tail_meaning r) → Answers s (refused k)
-    unfolding header
-    bad-tail {k} e h =
-        let no = not_read (tail_parts ot) (tail ot n) s c k (seen-tail (refused k) (at_case tail_meaning e h)) in
-        rw (q.opened.got.reads, q.got.reads, t.got.reads, no)
+          header_is : header s ≡ accepted (whole, drop end s)
+          unfolding header
+          header_is = rw (opened.0.reads, sectioned.0.reads, texted.0.reads, tailed.0.reads)
 
-    pub tailed : {tp : TailParts} {end : ℕ} → r ≡ tailstep.Found tp end → SeenTail f.order ts.cpus (tail_meaning r)
-        → Tailed s f a ps b ts c tp end
-    tailed {tp} {end} e h =
-        let k = seen-tail (accepted (tp, end)) (at_case tail_meaning e h) in
-        let g = got (exact_tail ot n) s q.opened.bytes c t.got.inside (tail_parts ot) tp end k in
-        record { texted = t; got = g.0; shown = g.1 }
+          end_is : length (encode whole) ≡ end
+          end_is =
+              let laid = (exact_header.forth s whole (drop end s) bytes header_is).1 in
+              omega (arith, tailed.0.inside, length-drop end s, length-append (encode whole) (drop end s), ap length laid)
 
-module _ {s : List ℕ} {f : Flags} {a : ℕ} {ps : SectionParts} {b : ℕ} {ts : TextParts} {c : ℕ} {tp : TailParts} {end : ℕ}
-    (z : Tailed s f a ps b ts c tp end) where
-  abbrev tz : Texted s f a ps b ts c
-  tz = z.texted
-
-  abbrev qz : Sectioned s f a ps b
-  qz = tz.sectioned
-
-  abbrev whole : Header
-  whole = record { opening = qz.opened.got.value; sections = qz.got.value; texts = tz.got.value; tail = z.got.value }
-
-  header_is : header s ≡ accepted (whole, drop end s)
-  unfolding header
-  header_is = rw (qz.opened.got.reads, qz.got.reads, tz.got.reads, z.got.reads)
-
-  end_is : length (encode whole) ≡ end
-  end_is =
-      let laid = (exact_header.forth s whole (drop end s) qz.opened.bytes header_is).1 in
-      omega (arith, z.got.inside, length-drop end s, length-append (encode whole) (drop end s), ap length laid)
-
-  pub all_read : {body : Part} → body ≡ body_of tp.ending tp.place end (length s)
-      → Answers s (accepted (record { flags = f; sections = ps; texts = ts; options = tp.options; ending = tp.ending; body = body }, end))
-  all_read {body} e =
-      let g = qz.opened in
-      let ea : length (put_opening whole.opening) ≡ a = omega (arith, g.got.place) in
-      let same =
-      summary-is (length s) whole f ps ts tp body a b c end ea (sym qz.got.place) (sym tz.got.place) end_is g.shown qz.shown
-      tz.shown z.shown e in
-      ap (λ v. accepted (v, end)) same ∙ seen (summary_seen (length s)) header s 0 whole end z.got.inside header_is
+          pub all_read : {body : Part} → body ≡ body_of tp.ending tp.place end (length s)
+              → Walks (accepted (record { flags = f; sections = ps; texts = ts; options = tp.options; ending = tp.ending; body = body }, end))
+          all_read {body} e =
+              let ea : length (put_opening whole.opening) ≡ a = omega (arith, opened.0.place) in
+              let same =
+              summary-is (length s) whole f ps ts tp body a b c end ea (sym sectioned.0.place) (sym texted.0.place) end_is opened.1 sectioned.1
+              texted.1 tailed.1 e in
+              ap (λ v. accepted (v, end)) same ∙ seen (summary_seen (length s)) header s 0 whole end tailed.0.inside header_is

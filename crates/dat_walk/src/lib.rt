@@ -5,16 +5,13 @@ mod opening;
 
 ghost use Rattle.std.specs.Prelude.{◌≡◌, length};
 ghost use Rattle.fields.specs.Reader.{seen_at};
+ghost use Rattle.fields.specs.Meaning.{answer_of};
 ghost use Rattle.dat_format.specs.Decode.{header};
 ghost use Rattle.dat_read.specs.Summary.{body_of, summary_seen};
-ghost use Rattle.dat_walk.specs.Steps.{walk_meaning};
 
 use dat_read::summary;
 use dat_read::summary::{EndingKind, Part, Summary};
-use dat_sections::SectionsStep;
-use dat_tail::TailStep;
-use dat_texts::TextsStep;
-use opening::OpeningStep;
+use refusals::Refusal;
 
 // The entries from `place` to the header's end, or the text from there to the file's end.
 fn body_of(ending: EndingKind, place: usize, end: usize, total: usize) -> Part
@@ -26,51 +23,21 @@ fn body_of(ending: EndingKind, place: usize, end: usize, total: usize) -> Part
     }
 }
 
-// A header's summary and its end, or a refusal.
-#[derive(Clone, Copy)]
-pub enum Walked {
-    Header { summary: Summary, end: usize },
-    Refused(u8),
-}
-
-pub fn walk(s: &[u8]) -> Walked
-    ensures { walk_meaning result ≡ seen_at (summary_seen (length s.now)) header s.now 0 }
+// A header's summary, and its end.
+pub fn walk(s: &[u8]) -> Result<(Summary, usize), Refusal>
+    ensures { answer_of result ≡ seen_at (summary_seen (length s.now)) header s.now 0 }
 {
-    match opening::opening_of(s) {
-        OpeningStep::Refused(n) => Walked::Refused(n),
-        OpeningStep::Found { flags, next: a } => {
-            let order = flags.order;
-            match dat_sections::sections_at(s, order, a) {
-                SectionsStep::Refused(n) => Walked::Refused(n),
-                SectionsStep::Found { sections, next: b } => match dat_texts::texts_at(
-                    s, order, b,
-                ) {
-                    TextsStep::Refused(n) => Walked::Refused(n),
-                    TextsStep::Found { texts, next: c } => {
-                        let cpus = texts.cpus;
-                        match dat_tail::tail_at(s, order, cpus, c) {
-                            TailStep::Refused(n) => Walked::Refused(n),
-                            TailStep::Found { parts, next: end } => {
-                                let options = parts.options;
-                                let ending = parts.ending;
-                                let place = parts.place;
-                                let body = body_of(ending, place, end, s.len());
-                                Walked::Header {
-                                    summary: Summary {
-                                        flags,
-                                        sections,
-                                        texts,
-                                        options,
-                                        ending,
-                                        body,
-                                    },
-                                    end,
-                                }
-                            }
-                        }
-                    }
-                },
-            }
-        }
-    }
+    let (flags, at) = opening::opening_of(s)?;
+    let (sections, at) = dat_sections::sections_at(s, flags.order, at)?;
+    let (texts, at) = dat_texts::texts_at(s, flags.order, at)?;
+    let (tail, end) = dat_tail::tail_at(s, flags.order, texts.cpus, at)?;
+    let summary = Summary {
+        flags,
+        sections,
+        texts,
+        options: tail.options,
+        ending: tail.ending,
+        body: body_of(tail.ending, tail.place, end, s.len()),
+    };
+    Ok((summary, end))
 }

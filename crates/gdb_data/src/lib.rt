@@ -14,6 +14,7 @@ ghost use Rattle.gdb_data.specs.Blocks.{has_number, search_meaning, number_at, N
 
 use gdb_format::Format;
 use refusals::Refusal;
+use std::fmt;
 
 // How the frames of a file are laid out: its format, and the size of a register block, where the description states one.
 #[derive(Clone, Copy, Debug, PartialEq, Eq)]
@@ -37,6 +38,21 @@ pub enum BlockKind {
     Variable { number: u32, value: i64 },
 }
 
+// By its word, with what it carries.
+impl fmt::Display for BlockKind {
+    fn fmt<W: fmt::Write>(&self, f: &mut fmt::Formatter<W>) -> fmt::Result {
+        match self {
+            BlockKind::Registers => write!(f, "registers"),
+            BlockKind::Memory(span) => write!(
+                f,
+                "memory address {} length {}",
+                span.address, span.length
+            ),
+            BlockKind::Variable { number, value } => write!(f, "variable {number} value {value}"),
+        }
+    }
+}
+
 // A block: the place of its letter, and its kind.
 #[derive(Clone, Copy, Debug, PartialEq, Eq)]
 pub struct BlockRecord {
@@ -51,85 +67,98 @@ pub struct BlockStep {
     pub next: usize,
 }
 
-// Where n bytes behind the letter at `at` end. They are counted from the place that the walk has, so that no sum stands between its tests of the letter.
-fn bytes_end(d: &[u8], at: usize, n: usize) -> Result<usize, Refusal>
-    requires { at < length d.now }
-    ensures { end_meaning result ≡ pass_at (bytes n block_past_data) d.now (at + 1) }
-{
-    if d.len() - at <= n {
-        return Err(Refusal::BlockPastData);
-    }
-    Ok(at + 1 + n)
+// A place in the data of a frame where a block's letter stands.
+#[derive(Clone, Copy)]
+struct Letter<'a> {
+    d: &'a [u8],
+    at: usize,
+    ghost inside: { at < length d.now },
 }
 
-// The end of the memory block whose letter stands at `at`: behind it address and length, 10 bytes, and as many as the length says.
-fn memory_end(format: Format, d: &[u8], at: usize) -> Result<usize, Refusal>
-    requires { at < length d.now }
-    ensures { end_meaning result ≡ pass_at (memory_block format) d.now (at + 1) }
-{
-    if d.len() - at < 11 {
-        return Err(Refusal::BlockPastData);
+impl<'a> Letter<'a> {
+    // Where n bytes behind the letter end. They are counted from the letter's place, so that no sum stands between a walk's tests of the letter.
+    fn bytes_end(self, n: usize) -> Result<usize, Refusal>
+        ensures { end_meaning result ≡ pass_at (bytes n block_past_data) self.entry.d.now (self.entry.at + 1) }
+    {
+        if self.d.len() - self.at <= n {
+            return Err(Refusal::BlockPastData);
+        }
+        Ok(self.at + 1 + n)
     }
-    let length = fields::u16_at(d, format.order, at + 9) as usize;
-    bytes_end(d, at, 10 + length)
-}
 
-// The end of the block at `at` that is neither memory nor a variable: the first register block of its frame, or a refusal, in the order 8, 24, 10, 9.
-fn registers_end(size: Option<usize>, seen: bool, d: &[u8], at: usize) -> Result<usize, Refusal>
-    requires { (at < length d.now) × NoOther d.now at }
-    ensures { (f : Format) → end_meaning result ≡ pass_at (block_after f (size_meaning size) seen) d.now at }
-{
-    if d[at] != b'R' {
-        return Err(Refusal::BadLetter);
+    // The end of a memory block: behind its letter address and length, 10 bytes, and as many as the length says.
+    fn memory_end(self, format: Format) -> Result<usize, Refusal>
+        ensures { end_meaning result ≡ pass_at (memory_block format) self.entry.d.now (self.entry.at + 1) }
+    {
+        if self.d.len() - self.at < 11 {
+            return Err(Refusal::BlockPastData);
+        }
+        let length = fields::u16_at(self.d, format.order, self.at + 9) as usize;
+        self.bytes_end(10 + length)
     }
-    if seen {
-        return Err(Refusal::SecondRegisters);
-    }
-    let Some(n) = size else {
-        return Err(Refusal::NoRegisterSize);
-    };
-    bytes_end(d, at, n)
-}
 
-// The end of the memory or variable block at `at`, if one stands there. Registers that were seen before it change nothing of it.
-fn other_end(format: Format, d: &[u8], at: usize) -> Result<Option<usize>, Refusal>
-    requires { at < length d.now }
-    ensures { OtherAt format d.now at result }
-{
-    match d[at] {
-        b'M' => Ok(Some(memory_end(format, d, at)?)),
-        b'V' => Ok(Some(bytes_end(d, at, 12)?)),
-        _ => Ok(None),
+    // The end of a block that is neither memory nor a variable: the first register block of its frame, or a refusal, in the order 8, 24, 10, 9.
+    fn registers_end(self, size: Option<usize>, seen: bool) -> Result<usize, Refusal>
+        requires { NoOther self.d.now self.at }
+        ensures { (f : Format) → end_meaning result ≡ pass_at (block_after f (size_meaning size) seen) self.entry.d.now self.entry.at }
+    {
+        if self.d[self.at] != b'R' {
+            return Err(Refusal::BadLetter);
+        }
+        if seen {
+            return Err(Refusal::SecondRegisters);
+        }
+        let Some(n) = size else {
+            return Err(Refusal::NoRegisterSize);
+        };
+        self.bytes_end(n)
     }
-}
 
-// The end of the block at `at`, as the first of its frame.
-fn block_end(layout: FrameLayout, d: &[u8], at: usize) -> Result<usize, Refusal>
-    requires { at < length d.now }
-    ensures { end_meaning result ≡ pass_at (block layout.format (size_meaning layout.size)) d.now at }
-{
-    match other_end(layout.format, d, at)? {
-        Some(end) => Ok(end),
-        None => registers_end(layout.size, false, d, at),
+    // The end of a memory or variable block, if it is one. Registers that were seen before it change nothing of it.
+    fn other_end(self, format: Format) -> Result<Option<usize>, Refusal>
+        ensures { OtherAt format self.entry.d.now self.entry.at result }
+    {
+        match self.d[self.at] {
+            b'M' => Ok(Some(self.memory_end(format)?)),
+            b'V' => Ok(Some(self.bytes_end(12)?)),
+            _ => Ok(None),
+        }
     }
-}
 
-// The kind of the block whose letter stands at `at`, with what it carries.
-fn kind_at(format: Format, d: &[u8], at: usize) -> BlockKind
-    requires { at < length d.now }
-    ensures { kind_meaning result ≡ kind_at format d.now at }
-{
-    let order = format.order;
-    match d[at] {
-        b'R' => BlockKind::Registers,
-        b'M' => BlockKind::Memory(MemorySpan {
-            address: fields::u64_at(d, order, at + 1),
-            length: fields::u16_at(d, order, at + 9) as usize,
-        }),
-        _ => BlockKind::Variable {
-            number: fields::u32_at(d, order, at + 1),
-            value: fields::signed(fields::u64_at(d, order, at + 5)),
-        },
+    // The end of a block, as the first of its frame.
+    fn block_end(self, layout: FrameLayout) -> Result<usize, Refusal>
+        ensures { end_meaning result ≡ pass_at (block layout.format (size_meaning layout.size)) self.entry.d.now self.entry.at }
+    {
+        match self.other_end(layout.format)? {
+            Some(end) => Ok(end),
+            None => self.registers_end(layout.size, false),
+        }
+    }
+
+    // The block's kind, with what it carries.
+    fn kind(self, format: Format) -> BlockKind
+        ensures { kind_meaning result ≡ kind_at format self.entry.d.now self.entry.at }
+    {
+        let Letter { d, at } = self;
+        let order = format.order;
+        match d[at] {
+            b'R' => BlockKind::Registers,
+            b'M' => BlockKind::Memory(MemorySpan {
+                address: fields::u64_at(d, order, at + 1),
+                length: fields::u16_at(d, order, at + 9) as usize,
+            }),
+            _ => BlockKind::Variable {
+                number: fields::u32_at(d, order, at + 1),
+                value: fields::signed(fields::u64_at(d, order, at + 5)),
+            },
+        }
+    }
+
+    // Whether the letter is `V`, and the number behind it this one.
+    fn has_number(self, format: Format, number: u32) -> bool
+        ensures { result ≡ number_at format self.entry.d.now self.entry.at number }
+    {
+        self.d[self.at] == b'V' && fields::u32_at(self.d, format.order, self.at + 1) == number
     }
 }
 
@@ -140,8 +169,9 @@ pub fn block_at(layout: FrameLayout, d: &[u8], at: usize) -> Result<Option<Block
     if d.len() <= at {
         return Ok(None);
     }
-    let next = block_end(layout, d, at)?;
-    let kind = kind_at(layout.format, d, at);
+    let letter = Letter { d, at };
+    let next = letter.block_end(layout)?;
+    let kind = letter.kind(layout.format);
     let record = BlockRecord { place: at, kind };
     Ok(Some(BlockStep { record, next }))
 }
@@ -160,17 +190,10 @@ pub fn registers_at(layout: FrameLayout, d: &[u8], at: usize) -> Result<Option<S
     if d.len() <= at {
         return Ok(None);
     }
-    let next = block_end(layout, d, at)?;
+    let letter = Letter { d, at };
+    let next = letter.block_end(layout)?;
     let sought = d[at] == b'R';
     Ok(Some(SearchStep { sought, next }))
-}
-
-// Whether the letter at `at` is `V`, and the number behind it this one.
-fn has_number(format: Format, d: &[u8], at: usize, number: u32) -> bool
-    requires { at < length d.now }
-    ensures { result ≡ number_at format d.now at number }
-{
-    d[at] == b'V' && fields::u32_at(d, format.order, at + 1) == number
 }
 
 // What stands at `at`, as `block_at` has it, told by whether it is a block of variable `number`.
@@ -185,8 +208,9 @@ pub fn variable_at(
     if d.len() <= at {
         return Ok(None);
     }
-    let next = block_end(layout, d, at)?;
-    let sought = has_number(layout.format, d, at, number);
+    let letter = Letter { d, at };
+    let next = letter.block_end(layout)?;
+    let sought = letter.has_number(layout.format, number);
     Ok(Some(SearchStep { sought, next }))
 }
 
@@ -196,7 +220,7 @@ fn others_end(format: Format, d: &[u8], from: usize) -> Result<Option<usize>, Re
 {
     let mut at = from;
     while at < d.len() {
-        match other_end(format, d, at)? {
+        match (Letter { d, at }).other_end(format)? {
             Some(next) => at = next,
             None => return Ok(Some(at)),
         }
@@ -211,7 +235,7 @@ pub fn blocks_from(layout: FrameLayout, d: &[u8], from: usize) -> Result<(), Ref
     let mut at = from;
     let mut seen = false;
     while let Some(place) = others_end(layout.format, d, at)? {
-        at = registers_end(layout.size, seen, d, place)?;
+        at = (Letter { d, at: place }).registers_end(layout.size, seen)?;
         seen = true;
     }
     Ok(())

@@ -10,6 +10,7 @@ ghost use Rattle.gdb_format.specs.Opening.{line_of, below, register_step, line_s
 
 use fields::Order;
 use refusals::Refusal;
+use std::fmt;
 
 // How a file is to be read, in the caller's numbers: the byte order is 0 for little, 1 for big; the base of the R line is 16 or 10.
 #[repr(C)]
@@ -67,15 +68,29 @@ impl TryFrom<Settings> for Format {
     }
 }
 
-// A description line's kind, as what it starts with tells.
+// A description line's kind, as what it starts with tells, in the order of the C header's numbers.
 #[derive(Clone, Copy, Debug, PartialEq, Eq)]
 pub enum LineKind {
+    Other,
     Registers,
     Status,
     Tracepoint,
     Variable,
     Target,
-    Other,
+}
+
+// By its word.
+impl fmt::Display for LineKind {
+    fn fmt<W: fmt::Write>(&self, f: &mut fmt::Formatter<W>) -> fmt::Result {
+        f.write_str(match self {
+            LineKind::Other => "other",
+            LineKind::Registers => "registers",
+            LineKind::Status => "status",
+            LineKind::Tracepoint => "tracepoint",
+            LineKind::Variable => "variable",
+            LineKind::Target => "target",
+        })
+    }
 }
 
 fn is_register(l: &[u8]) -> bool
@@ -111,23 +126,25 @@ pub fn line_kind(l: &[u8]) -> LineKind
     LineKind::Other
 }
 
-// What the place of a digit counts.
-fn radix_of(base: Base) -> usize
-    ensures { result ≡ radix base }
-{
-    match base {
-        Base::Ten => 10,
-        Base::Sixteen => 16,
+impl Base {
+    // What the place of a digit counts.
+    fn radix(self) -> usize
+        ensures { result ≡ radix self }
+    {
+        match self {
+            Base::Ten => 10,
+            Base::Sixteen => 16,
+        }
     }
-}
 
-// How many digits an R line may have.
-fn most_digits(base: Base) -> usize
-    ensures { result ≡ most_digits base }
-{
-    match base {
-        Base::Ten => 5,
-        Base::Sixteen => 4,
+    // How many digits an R line may have.
+    fn most_digits(self) -> usize
+        ensures { result ≡ most_digits self }
+    {
+        match self {
+            Base::Ten => 5,
+            Base::Sixteen => 4,
+        }
     }
 }
 
@@ -149,8 +166,8 @@ fn digit_in(radix: usize, b: u8) -> Option<usize>
 fn size_in(format: Format, l: &[u8]) -> Option<usize>
     ensures { held result ≡ size_of format l.now }
 {
-    let radix = radix_of(format.base);
-    let most = most_digits(format.base);
+    let radix = format.base.radix();
+    let most = format.base.most_digits();
     if l.len() < 3 || most < l.len() - 2 {
         return None;
     }
@@ -176,7 +193,9 @@ fn register_step(format: Format, seen: Seen, l: &[u8]) -> Result<Seen, Refusal>
     if seen.size.is_some() {
         return Err(Refusal::BadLine);
     }
-    let n = size_in(format, l).ok_or(Refusal::BadLine)?;
+    let Some(n) = size_in(format, l) else {
+        return Err(Refusal::BadLine);
+    };
     Ok(Seen {
         size: Some(n),
         ..seen
@@ -206,14 +225,12 @@ fn line_step(format: Format, seen: Seen, l: &[u8]) -> Result<Seen, Refusal>
 pub fn line_end(s: &[u8], from: usize) -> usize
     ensures { result ≡ from + length (line_of (drop from s.now)) }
 {
-    let mut at = from;
-    while at < s.len() {
+    for at in from..s.len() {
         if s[at] == b'\n' {
             return at;
         }
-        at += 1;
     }
-    at
+    from.max(s.len())
 }
 
 // Where the description ends, after the empty line's 0A, and the register size that it states.

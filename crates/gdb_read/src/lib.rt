@@ -168,10 +168,7 @@ pub struct Opened {
 pub fn front(s: &[u8], end: usize) -> &[u8]
     ensures { result.now ≡ take end s.now }
 {
-    if s.len() <= end {
-        return s;
-    }
-    &s[..end]
+    &s[..end.min(s.len())]
 }
 
 // A call of its own, so that what it needs of the stack is given back before a question walks to its answer.

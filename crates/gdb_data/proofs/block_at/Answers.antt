@@ -14,4 +14,4 @@ returns-in_err-next c =
 pub returns : goal.returns
 returns c =
     let h : Ended c.args.layout.format (size_meaning c.args.layout.size) false c.args.d.now c.args.at c.block_end.result = judged (omega arith) c.block_end.ensures in
-    shown_block_lem h c.in_ok-next.was c.kind_at-kind.ensures
+    shown_block_lem h c.in_ok-next.was c.kind-kind.ensures

@@ -1,16 +1,17 @@
 -- The byte tells the order, or that there is none.
-use Rattle.std.proofs.Common.{arith}
-use Rattle.dat_walk.proofs.OpeningLaws.{no-order, is-little, is-big, bad-order}
+use Rattle.std.proofs.Common.{rules, ◌≡◌, arith}
+use Rattle.refusals.specs.declared.Refusal.TheVariants.{BadConstant}
+use Rattle.dat_read.specs.Read.{handed_on}
+use Rattle.dat_walk.proofs.OpeningLaws.{no-order, bad_order, with_order}
 use Rattle.dat_walk.proofs.opening.flags_at.Goals as goal
 
 pub returns-then-s-at : goal.returns-then-s-at
 returns-then-s-at c = no-order c.args.s.now c.args.at (omega arith)
 
-pub returns-then-code-eq0 : goal.returns-then-code-eq0
-returns-then-code-eq0 c = is-little c.args.s.now c.args.at (omega arith) c.if-code-eq0.true c.sizes_at.ensures
-
-pub returns-then-code-eq1 : goal.returns-then-code-eq1
-returns-then-code-eq1 c = is-big c.args.s.now c.args.at (omega arith) c.if-code-eq1.true c.sizes_at-then-code-eq1.ensures
+pub returns-in_err-order : goal.returns-in_err-order
+returns-in_err-order c =
+    let e : c.in_err-order.field-0.0 ≡ BadConstant = search rules in
+    handed_on _ _ _ c.from_residual.ensures.1 (rw e (bad_order c.args.s.now c.args.at (omega arith) (search rules)))
 
 pub returns : goal.returns
-returns c = bad-order c.args.s.now c.args.at (omega arith) c.if-code-eq0.false c.if-code-eq1.false
+returns c = with_order c.args.s.now c.args.at (omega arith) (search rules) c.sizes_at.ensures
