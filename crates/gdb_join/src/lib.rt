@@ -95,5 +95,6 @@ pub fn join(
     }
     let body = &first[..pair.first.end];
     let frames = &second[pair.second.start..pair.second.end];
-    Ok(write_join(body, frames, pair.is_marked(), out))
+    let marked = pair.is_marked();
+    Ok(write_join(body, frames, marked, out))
 }

@@ -43,7 +43,7 @@ returns c =
     let p = c.in_ok-pair.pair in
     let body : List ℕ = take p.first.end c.args.first.now in
     let frames : List ℕ = take (p.second.end - p.second.start) (drop p.second.start c.args.second.now) in
-    let mark_is = ap put_mark c.is_marked.ensures in
-    lent_written _ _ ((body ++ frames) ++ put_mark c.is_marked.result) _ _ (j.gives ∙ ap (λ x. accepted ((body ++ frames) ++ x)) (sym mark_is))
+    let mark_is = ap put_mark c.is_marked-marked.ensures in
+    lent_written _ _ ((body ++ frames) ++ put_mark c.is_marked-marked.result) _ _ (j.gives ∙ ap (λ x. accepted ((body ++ frames) ++ x)) (sym mark_is))
     c.write_join.ensures.long
     (omega (arith, j.long, ap (λ x. length ((body ++ frames) ++ x)) mark_is, c.if-out-joined_length.false, c.joined_length.ensures)) c.write_join.ensures.bytes
