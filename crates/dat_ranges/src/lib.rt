@@ -72,8 +72,8 @@ fn entry_at(s: &[u8], order: Order, at: usize) -> Entry
 {
     let entry = &s[at..at + 16];
     Entry {
-        offset: fields::u64_there(entry, order, 0),
-        size: fields::u64_there(entry, order, 8),
+        offset: fields::u64_at(entry, order, 0),
+        size: fields::u64_at(entry, order, 8),
     }
 }
 
