@@ -83,8 +83,8 @@ fn range_in(entry: &[u8], order: Order) -> CpuRange
 {
     let entry = &entry[..16];
     CpuRange {
-        offset: fields::u64_there(entry, order, 0),
-        size: fields::u64_there(entry, order, 8),
+        offset: fields::u64_at(entry, order, 0),
+        size: fields::u64_at(entry, order, 8),
     }
 }
 
