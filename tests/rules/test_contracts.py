@@ -44,7 +44,7 @@ class Contracts(unittest.TestCase):
 
     def test_an_answer_is_promised_by_its_meaning(self):
         enums_with_values = {name for name, cases in enums().items() if VALUES.search(cases)}
-        self.assertLess({'BlockKind', 'PairPlace'}, enums_with_values)
+        self.assertLessEqual({'BlockKind', 'PairPlace'}, enums_with_values)
         answers = {f.name for f in FUNCTIONS if ANSWER.search(f.returned())}
         self.assertLess({'frame_count', 'block_record', 'head_at', 'summary'}, answers)
         self.each(lambda f: f.place == READING or not (f.name in answers or f.returned() in enums_with_values) or MEANING.search(f.promised()),
