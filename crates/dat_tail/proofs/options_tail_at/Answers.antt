@@ -8,16 +8,16 @@ pub returns-in_err-end : goal.returns-in_err-end
 returns-in_err-end c =
     let a = c.args in
     handed_on _ _ _ c.from_residual.ensures.1
-    (bad_options a.order a.cpus a.s.now (bytes-given a.s.now c.type_inv.s) a.at c.requires c.in_err-end.ensures)
+    (bad_options a.order a.cpus a.s.now (bytes-given a.s.now c.type_inv.s) a.at c.in_err-end.ensures)
 
 pub returns-in_err-word : goal.returns-in_err-word
 returns-in_err-word c =
     let a = c.args in
     handed_on _ _ _ c.from_residual-in_err-word.ensures.1
-    (bad_second a.order a.cpus a.s.now (bytes-given a.s.now c.type_inv.s) a.at c.requires c.in_ok-end.ensures c.in_err-word.ensures)
+    (bad_second a.order a.cpus a.s.now (bytes-given a.s.now c.type_inv.s) a.at c.in_ok-end.ensures c.in_err-word.ensures)
 
 pub returns : goal.returns
 returns c =
     let a = c.args in
-    with_options a.order a.cpus a.s.now (bytes-given a.s.now c.type_inv.s) a.at c.requires c.in_ok-end.ensures c.in_ok-word.ensures
-    c.span.ensures c.ending_at.ensures
+    with_options a.order a.cpus a.s.now (bytes-given a.s.now c.type_inv.s) a.at c.in_ok-end.ensures c.in_ok-word.ensures
+    c.span.ensures (c.ending_at.ensures a.order)

@@ -22,19 +22,21 @@ returns-in_err-count c =
     handed_on _ _ _ c.from_residual-in_err-count.ensures.1
     (bad_processes a.order a.s.now (bytes-given a.s.now c.type_inv.s) a.at c.in_ok-printk.ensures c.in_ok-processes.ensures c.in_err-count.ensures)
 
-pub returns-then-s-count-lt4 : goal.returns-then-s-count-lt4
-returns-then-s-count-lt4 c =
+pub returns-in_err-end : goal.returns-in_err-end
+returns-in_err-end c =
     let a = c.args in
-    no_count a.order a.s.now (bytes-given a.s.now c.type_inv.s) a.at c.in_ok-printk.ensures c.in_ok-processes.ensures c.in_ok-count.ensures (omega arith)
+    handed_on _ _ _ c.from_residual-in_err-end.ensures.1
+    (no_count a.order a.s.now (bytes-given a.s.now c.type_inv.s) a.at c.in_ok-printk.ensures c.in_ok-processes.ensures c.in_ok-count.ensures
+    c.in_err-end.ensures)
 
 pub returns-then-cpus-gt-MOST_CPUS : goal.returns-then-cpus-gt-MOST_CPUS
 returns-then-cpus-gt-MOST_CPUS c =
     let a = c.args in
     many_cpus a.order a.s.now (bytes-given a.s.now c.type_inv.s) a.at c.in_ok-printk.ensures c.in_ok-processes.ensures c.in_ok-count.ensures
-    (omega arith) c.u32_at-cpus.ensures (omega arith)
+    c.in_ok-end.ensures c.u32_at-cpus.ensures (omega arith)
 
 pub returns : goal.returns
 returns c =
     let a = c.args in
     texts_read a.order a.s.now (bytes-given a.s.now c.type_inv.s) a.at c.in_ok-printk.ensures c.in_ok-processes.ensures c.in_ok-count.ensures
-    (omega arith) c.u32_at-cpus.ensures (omega arith) c.span.ensures c.span-2.ensures c.span-3.ensures
+    c.in_ok-end.ensures c.u32_at-cpus.ensures (omega arith) c.span.ensures c.span-2.ensures c.span-3.ensures
