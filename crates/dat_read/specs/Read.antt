@@ -48,12 +48,16 @@ pub read_inside : {A : Type 0} (p : Reader A) (s : List ℕ) (at : ℕ) {k m : �
 read_inside p s at {k} e h =
     by_cases (dec_le at (length s)) (λ l. l) (λ l. never (nothing_there (λ i a. tt {0}) p s at k (omega arith) e ∙ sym h))
 
+-- and what stands at the end
+pub at_end : (s : List ℕ) (at : ℕ) → length s ≤ at → drop at s ≡ drop (length s) s
+at_end s at h = rw (drop_of_length-le s {i = at} h, drop_of_length-le s {i = length s} (le_refl (length s)))
+
 -- wherever it starts, what it read and where the rest starts
 pub reads_on : {A : Type 0} {p : Reader A} {F : A → Type 0} {put : A → List ℕ} → Exact p F put → (s : List ℕ) → Bytes s → (at : ℕ) {m : ℕ}
     → accepted (tt, m) ≡ pass_at p s at → (v : A) × (p (drop at s) ≡ accepted (v, drop m s))
 reads_on {p = p} x s b at e =
     by_cases (dec_le at (length s)) (λ h. let g = gone_on x b h e in (g.value, g.reads)) (λ l.
-    let d : drop at s ≡ drop (length s) s = rw (drop_of_length-le s {i = at} (omega arith), drop_of_length-le s {i = length s} (omega arith)) in
+    let d = at_end s at (omega arith) in
     let g = gone_on x b (le_refl (length s)) (e ∙ rw d) in
     (g.value, ap p d ∙ g.reads))
 

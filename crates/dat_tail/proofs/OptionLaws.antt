@@ -1,7 +1,7 @@
 -- What the steps over the options and over the CPU entries answer in each case that the code tells apart.
 -- Assumes nothing.
 use Rattle.std.specs.Prelude.{◌≡◌, ◌≢◌, refl, Bool, true, false, cond, ℕ, zero, suc, ◌+◌, ◌-◌, ◌*◌, ◌<◌, ◌≤◌, List, [], ◌∷◌, length, drop, eqb}
-use Rattle.std.proofs.Common.{sym, ap, ◌∙◌, le_refl, lt_of_not-le, arith, length-drop, drop_of_length-le, ne_eqb}
+use Rattle.std.proofs.Common.{sym, ap, ◌∙◌, le_refl, lt_of_not-le, arith, length-drop, ne_eqb}
 use Rattle.std.proofs.Math.Decide.{dec_le}
 use Rattle.std.proofs.Math.Logic.{by_cases}
 use Rattle.refusals.specs.Refusal.{field_past_file}
@@ -17,7 +17,7 @@ use Rattle.dat_format.specs.Header.{Opt}
 use Rattle.dat_format.specs.Decode.{options_f, options, range}
 use Rattle.dat_format.specs.Entries.{entries-read, entries-short}
 use Rattle.dat_format.specs.ExactPieces.{exact_sized}
-use Rattle.dat_read.specs.Read.{stopped, gone_on, bytes_there, number_read, Sized, sized-end}
+use Rattle.dat_read.specs.Read.{stopped, gone_on, at_end, bytes_there, number_read, Sized, sized-end}
 
 -- ---- the count of the reading
 
@@ -95,9 +95,8 @@ module _ (o : Order) (s : List ℕ) (at : ℕ) where
 
 -- so many bytes as n entries take
 pub entries_taken : (o : Order) (s : List ℕ) (n at : ℕ) → pass_at (bytes (16 * n) field_past_file) s at ≡ pass_at (times n (range o)) s at
-entries_taken o s n at = by_cases (dec_le at (length s)) (inside at) (λ l.
-    let d : drop at s ≡ drop (length s) s = rw (drop_of_length-le s {i = at} (omega arith), drop_of_length-le s {i = length s} (omega arith)) in
-    rw d (inside (length s) (le_refl (length s))))
+entries_taken o s n at =
+    by_cases (dec_le at (length s)) (inside at) (λ l. rw (at_end s at (omega arith)) (inside (length s) (le_refl (length s))))
   where
     inside : (at : ℕ) → at ≤ length s → pass_at (bytes (16 * n) field_past_file) s at ≡ pass_at (times n (range o)) s at
     inside at h =
