@@ -15,6 +15,8 @@ COMMENT = re.compile(r'//.*')
 RETURNED = re.compile(r'->\s*(.*)$', re.S)
 LENT = re.compile(r"(\w+):\s*&(?:'\w+ )?mut\b")
 RESULT = re.compile(r'\bresult\b')
+CONVERSION = re.compile(r'^impl (?:Try)?From<.*> for \w\S* \{$', re.M)
+GIVES = re.compile(r'^    ghost (?:try_)?from_gives = \{ (.*) \};$', re.M)
 
 
 @dataclass
@@ -89,6 +91,16 @@ def libraries(root=ROOT):
 def public_functions(root=ROOT):
     return [f for folder in libraries(root) for path in public_files(folder)
             for f in functions_in(path.read_text(), str(path.relative_to(root))) if f.public]
+
+
+def conversions(root=ROOT):
+    """Each conversion of the libraries: its first line, and what it says of its result, an empty text where it says nothing."""
+    for folder in libraries(root):
+        for path in sorted(folder.rglob('*.rt')):
+            text = COMMENT.sub('', path.read_text())
+            for head in CONVERSION.finditer(text):
+                gives = GIVES.search(text, head.end(), text.index('\n}', head.end()))
+                yield f'{path.relative_to(root)}: {head[0]}', gives[1] if gives else ''
 
 
 @lru_cache(maxsize=None)

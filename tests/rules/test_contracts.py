@@ -2,13 +2,15 @@
 import re
 import unittest
 
-from contracts import ROOT, enums, fields_of, functions_in, public_functions
+from contracts import ROOT, conversions, enums, fields_of, functions_in, public_functions
 
 FUNCTIONS = public_functions()
 # What the programs read by: what comes from outside, and when reading fails, no equation can say.
 READING = 'crates/input/src/lib.rt'
-# An answer is an enum with a refusal or with values; one without, as a line's kind, is its own meaning.
-ANSWER = re.compile(r'[({]|Refused')
+# An answer is a `Result`, an `Option`, or an enum with values; an enum without, as a line's kind, is its own meaning.
+VALUES = re.compile(r'[({]')
+ANSWER = re.compile(r'\b(?:Result|Option)<')
+MEANING = re.compile(r'\b(?:\w*[mM]eaning|answer_of|held) \(?result\b')
 
 
 class Contracts(unittest.TestCase):
@@ -40,11 +42,18 @@ class Contracts(unittest.TestCase):
         self.each(lambda f: f.place == READING or all(map(equation, f.ensures)), 'the ensures is no equation')
         self.assertEqual([f.name for f in FUNCTIONS if f.place == READING], ['read_full'])
 
-    def test_an_enum_is_promised_by_its_meaning(self):
-        answers = {name for name, cases in enums().items() if ANSWER.search(cases)}
-        self.assertLess({'PlaceAnswer', 'BlockAnswer', 'EditAnswer', 'SummaryAnswer'}, answers)
-        self.each(lambda f: f.returned() not in answers or re.search(r'\w*[mM]eaning \(?result\b', f.promised()),
-                  'the ensures has no meaning of the enum')
+    def test_an_answer_is_promised_by_its_meaning(self):
+        enums_with_values = {name for name, cases in enums().items() if VALUES.search(cases)}
+        self.assertLess({'BlockKind', 'PairPlace'}, enums_with_values)
+        answers = {f.name for f in FUNCTIONS if ANSWER.search(f.returned())}
+        self.assertLess({'frame_count', 'block_record', 'head_at', 'summary'}, answers)
+        self.each(lambda f: f.place == READING or not (f.name in answers or f.returned() in enums_with_values) or MEANING.search(f.promised()),
+                  'the ensures has no meaning of the answer')
+
+    def test_every_conversion_says_what_it_gives(self):
+        found = list(conversions())
+        self.assertGreater(len(found), 10)
+        self.assertEqual([place for place, gives in found if not re.match(r'λ \S+ \S+\. .*≡', gives)], [])
 
 
 class Reading(unittest.TestCase):

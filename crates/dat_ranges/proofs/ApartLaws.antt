@@ -1,6 +1,6 @@
 -- Ranges that have claimed their units: the next one finds all its units free exactly where it is apart from each of them.
 -- Assumes nothing.
-use Rattle.std.proofs.Common.{◌≡◌, ℕ, zero, suc, ◌+◌, ◌-◌, ◌*◌, ◌/◌, ◌%◌, ◌<◌, ◌≤◌, Bool, true, false, ◌↔◌, List, [], ◌∷◌, length, get_or, replicate, sym, refl, ap, ◌∙◌, arith}
+use Rattle.std.proofs.Common.{◌≡◌, ℕ, zero, suc, ◌+◌, ◌/◌, ◌%◌, ◌<◌, Bool, true, false, ◌↔◌, List, [], ◌∷◌, ◌++◌, length, get_or, replicate, sym, refl, ap, ◌∙◌, arith, append_assoc, append-nil, length-append}
 use lib.ListN.{length-replicate}
 use Rattle.fields.specs.Lists.{Each, each_map, clash}
 use Rattle.fields.specs.Word.{and_inv}
@@ -13,7 +13,8 @@ use Rattle.dat_format.specs.RangeLaws.{apart_from}
 use Rattle.dat_format.specs.Entries.{entry_at, entries}
 use Rattle.dat_ranges.specs.Map.{bit, mark, Claimed, ClaimSays}
 use Rattle.dat_ranges.proofs.BitLaws.{zero_bit}
-use Rattle.dat_ranges.proofs.EntryLaws.{of_later}
+use Rattle.dat_ranges.specs.Ranges.{entries_in}
+use Rattle.dat_ranges.proofs.EntryLaws.{last_entry, of_end}
 
 no_true : (t : Bool) → (t ≡ true → ⊥) → t ≡ false
 no_true true h = absurd (h refl)
@@ -62,65 +63,65 @@ module _ {r : Range} (on : OnUnits r) where
         let none = (share_none rs ons).0 ((apart_from r rs).0 e) in
         t (λ u i. w.outside u (each_map (λ q h. h u i) rs none))
 
--- ---- the walk from the last entry to the first: with `left` entries left, those behind them have claimed their units, and are apart
+-- ---- the walk over the entries in b from the last to the first: those in `rest` are left, and the others have claimed their units, and are apart
 
-pub record Walk (o : Order) (s : List ℕ) (n from left : ℕ) (m : List ℕ) : Type 0 where
-  pub done : ℕ
-  pub parts : left + done ≡ n
-  pub marked : Marked m (entries o s done (from + 16 * left))
-  pub clear : all_apart (entries o s done (from + 16 * left)) ≡ true
+pub record Walk (o : Order) (b rest m : List ℕ) : Type 0 where
+  pub whole : length rest % 16 ≡ 0
+  pub done : List Range
+  pub parts : entries_in o rest ++ done ≡ entries_in o b
+  pub marked : Marked m done
+  pub clear : all_apart done ≡ true
 
-pub walk_start : {o : Order} {s : List ℕ} {n from : ℕ} {m : List ℕ} → m ≡ replicate 1024 0 → Walk o s n from n m
-walk_start e = record { done = 0; parts = omega arith; marked = none_marked e; clear = refl }
+-- where the entries fill b, no bytes are ahead of the first
+pub walk_start : {o : Order} {b : List ℕ} (ahead rest : List ℕ) {m : List ℕ} → m ≡ replicate 1024 0 → length b % 16 ≡ 0 → b ≡ ahead ++ rest → length ahead ≡ length b % 16
+    → Walk o b rest m
+walk_start {o} [] rest e h p l =
+    record { whole = rw (← p) h; done = []; parts = append-nil (entries_in o rest) ∙ ap (entries_in o) (sym p); marked = none_marked e; clear = refl }
+walk_start (x ∷ ahead) rest e h p l = absurd (omega arith)
 
-module _ {o : Order} {s : List ℕ} {n from left : ℕ} {m : List ℕ} (w : Walk o s n from left m) where
-  pub walk_end : left ≤ 0 → true ≡ all_apart (entries o s n from)
+module _ {o : Order} {b rest m : List ℕ} (w : Walk o b rest m) where
+  pub walk_end : length rest < 16 → true ≡ all_apart (entries_in o b)
   walk_end l =
-      let e : w.done ≡ n = omega (arith, w.parts) in
-      let f : from + 16 * left ≡ from = omega arith in
-      sym (rw (e, f) at w.clear)
+      let d : length rest / 16 ≡ 0 = omega arith in
+      let e : entries_in o rest ≡ [] = ap (λ n. entries o rest n 0) d in
+      sym w.clear ∙ ap all_apart (sym (ap (λ rs. rs ++ w.done) e) ∙ w.parts)
 
-  module _ (on : Each OnUnits (entries o s n from)) (l : 0 < left) where
-    abbrev at : ℕ
-    at = from + 16 * (left - 1)
+  module _ (next x : List ℕ) (e : rest ≡ next ++ x) (l : length x ≡ 16) {r : Range} (f : r ≡ entry_at o x 0) where
+    length_rest : length rest ≡ length next + 16
+    length_rest = ap length e ∙ length-append next x ∙ ap (λ n. length next + n) l
 
-    abbrev later : List Range
-    later = entries o s w.done (at + 16)
+    whole_next : length next % 16 ≡ 0
+    whole_next = omega (arith, length_rest, w.whole)
+
+    joined : entries_in o next ++ r ∷ w.done ≡ entries_in o b
+    joined =
+        ap (λ r. entries_in o next ++ r ∷ w.done) f ∙ sym (append_assoc (entries_in o next) (entry_at o x 0 ∷ []) w.done)
+        ∙ ap (λ rs. rs ++ w.done) (sym (ap (entries_in o) e ∙ last_entry o next x whole_next l)) ∙ w.parts
 
     -- what holds of all entries holds of the next one and those behind it
-    from_next : (F : List Range → Type 0) → ((r : Range) (rs : List Range) → F (r ∷ rs) → F rs) → F (entries o s n from) → F (entry_at o s at ∷ later)
-    from_next F on h =
-        let e : n ≡ (left - 1) + suc w.done = omega (arith, w.parts) in
-        of_later o s F on (left - 1) (suc w.done) from (rw e at h)
+    from_next : (F : List Range → Type 0) → ((r : Range) (rs : List Range) → F (r ∷ rs) → F rs) → F (entries_in o b) → F (r ∷ w.done)
+    from_next F on h = of_end F on (entries_in o next) (r ∷ w.done) (rw joined h)
 
-    all-on_units : Each OnUnits (entry_at o s at ∷ later)
-    all-on_units = from_next (Each OnUnits) (λ r rs h. h.1) on
+    module _ (on : Each OnUnits (entries_in o b)) where
+      ons : Each OnUnits (r ∷ w.done)
+      ons = from_next (Each OnUnits) (λ r rs h. h.1) on
 
-    moved : at + 16 ≡ from + 16 * left
-    moved = omega arith
-
-    later_marked : Marked m later
-    later_marked = rw moved w.marked
-
-    later_clear : all_apart later ≡ true
-    later_clear = rw moved w.clear
-
-    module _ {r : Range} (e : r ≡ entry_at o s at) where
       pub next_on : OnUnits r
-      next_on = rw e all-on_units.0
+      next_on = ons.0
 
-      pub walk_on : (t : Bool) {after : List ℕ} → t ≡ true → ClaimSays t (λ u. InUnit u r) m after → Walk o s n from (left - 1) after
-      walk_on false f c = clash (cc)
-      walk_on true f c = record {
-        done = suc w.done;
-        parts = omega (arith, w.parts);
-        marked = rw (← e) (claimed_marked next_on all-on_units.1 later_marked c);
-        clear = rw (← e) (rw (claimed_apart next_on all-on_units.1 later_marked c, later_clear));
+      pub walk_on : (t : Bool) {after : List ℕ} → t ≡ true → ClaimSays t (λ u. InUnit u r) m after → Walk o b next after
+      walk_on false g c = clash (cc)
+      walk_on true g c = record {
+        whole = whole_next;
+        done = r ∷ w.done;
+        parts = joined;
+        marked = claimed_marked next_on ons.1 w.marked c;
+        clear = rw (claimed_apart next_on ons.1 w.marked c, w.clear);
       }
 
       -- where the entries behind overlap, all do
-      pub walk_stop : (t : Bool) (after : List ℕ) → t ≡ false → ClaimSays t (λ u. InUnit u r) m after → false ≡ all_apart (entries o s n from)
-      walk_stop true after f c = clash (cc)
-      walk_stop false after f c = sym (no_true (all_apart (entries o s n from)) (λ a.
-          let b = from_next (λ rs. all_apart rs ≡ true) (λ r rs h. (and_inv (all (apart r) rs) (all_apart rs) h).1) a in
-          taken_overlaps next_on all-on_units.1 later_marked c (rw e (and_inv (all (apart (entry_at o s at)) later) (all_apart later) b).0)))
+      pub walk_stop : (t : Bool) (after : List ℕ) → t ≡ false → ClaimSays t (λ u. InUnit u r) m after → false ≡ all_apart (entries_in o b)
+      walk_stop true after g c = clash (cc)
+      walk_stop false after g c = sym (no_true (all_apart (entries_in o b)) (λ a.
+          let d = from_next (λ rs. all_apart rs ≡ true) (λ r rs h. (and_inv (all (apart r) rs) (all_apart rs) h).1) a in
+          taken_overlaps next_on ons.1 w.marked c (and_inv (all (apart r) w.done) (all_apart w.done) d).0))

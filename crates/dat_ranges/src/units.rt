@@ -3,10 +3,12 @@
 ghost use Rattle.std.specs.Prelude.{◌≡◌, ◌+◌, ◌<◌, ◌≤◌, length, ◌==◌, bit_and, bit_or, slice_index, slice_set};
 ghost use Rattle.dat_format.specs.Units.{InUnit, OnUnits};
 ghost use Rattle.dat_ranges.specs.Map.{Bits, ClaimSays, From};
-ghost use Rattle.dat_ranges.specs.Ranges.{range_of};
+ghost use Rattle.dat_ranges.specs.Ranges.{stored};
+
+use crate::CpuRange;
 
 // The bits of a word from `low` on.
-fn bits_from(low: u64) -> u64
+fn bits_from(low: usize) -> u64
     requires { low < 64 }
     ensures { Bits 0 low 64 result }
 {
@@ -14,7 +16,7 @@ fn bits_from(low: u64) -> u64
 }
 
 // The bits of a word up to `high`, itself among them.
-fn bits_to(high: u64) -> u64
+fn bits_to(high: usize) -> u64
     requires { high < 64 }
     ensures { Bits 0 0 (high + 1) result }
 {
@@ -38,27 +40,25 @@ fn claim(map: &mut [u64; 1024], first: usize, last: usize) -> bool
     ensures { ClaimSays result (From first (last + 1)) map.old map.new }
 {
     let stop = last / 64;
-    let mut word = first / 64;
-    let mut bits = bits_from((first % 64) as u64);
-    while word < stop {
+    let mut bits = bits_from(first % 64);
+    for word in first / 64..stop {
         if !claim_bits(map, word, bits) {
             return false;
         }
         bits = bits_from(0);
-        word += 1;
     }
-    claim_bits(map, stop, bits & bits_to((last % 64) as u64))
+    claim_bits(map, stop, bits & bits_to(last % 64))
 }
 
 // Claims the units of a range, none where it is of size 0; whether they were free.
-pub(crate) fn claim_range(map: &mut [u64; 1024], offset: u64, size: u64) -> bool
-    requires { (length map.old ≡ 1024) × OnUnits (range_of offset size) }
-    ensures { ClaimSays result (λ u. InUnit u (range_of offset size)) map.old map.new }
+pub(crate) fn claim_range(map: &mut [u64; 1024], range: CpuRange) -> bool
+    requires { (length map.old ≡ 1024) × OnUnits (stored range) }
+    ensures { ClaimSays result (λ u. InUnit u (stored range)) map.old map.new }
 {
-    if size == 0 {
+    if range.size == 0 {
         return true;
     }
-    let first = (offset / 1024) as usize;
-    let last = ((offset + size - 1) / 1024) as usize;
-    claim(map, first, last)
+    let first = range.offset / 1024;
+    let last = (range.offset + range.size - 1) / 1024;
+    claim(map, first as usize, last as usize)
 }

@@ -19,7 +19,7 @@ use Rattle.fields.specs.Signed.{signed64}
 use Rattle.fields.specs.Answer.{Answer, accepted, refused, never, accepted_inj, next, next_inv}
 use Rattle.fields.specs.Reader.{Reader, ◌>>=◌, give, refuse, bytes, step_at, seen_to, pass_at}
 use Rattle.fields.specs.Takes.{bytes_inv}
-use Rattle.fields.specs.At.{bytes-short, bytes-at, nums_short, nums_at, place_of}
+use Rattle.fields.specs.At.{bytes-short, bytes-at, nums_short, nums_at}
 use Rattle.fields.specs.At.{step_fault, step_read}
 use Rattle.fields.specs.Got.{took, not_read, shown_of}
 use Rattle.fields.specs.Given.{at_case}
@@ -29,13 +29,13 @@ use Rattle.gdb_format.specs.Decode.{register_block, memory_block, variable_block
 use Rattle.gdb_format.specs.Opening.{size_meaning}
 use Rattle.gdb_format.specs.ExactBlock.{takes_blockOf, letter_read}
 use Rattle.gdb_format.specs.declared.Format.{Format}
-use Rattle.gdb_format.specs.declared.RegisterSize.{RegisterSize}
-use Rattle.gdb_format.specs.declared.RegisterSize.TheVariants.{Unknown, Bytes}
 use Rattle.gdb_data.specs.Blocks.{Carried, registers, memory, variable, carried_by, block_seen, kind_at, has_number, number_at, end_meaning, NoOther}
-use Rattle.gdb_data.specs.declared.BlockEnd.{BlockEnd}
-use Rattle.gdb_data.specs.declared.BlockEnd.TheVariants as blockend
+use Rattle.std.specs.Prelude.{Some, None, Result, Ok, Err}
+use Rattle.std.specs.Prelude.{Option as Optional}
+use Rattle.refusals.specs.Number.{number}
+use Rattle.refusals.specs.declared.Refusal.{Refusal}
 
--- where something ends, as `BlockEnd` tells it
+-- where something ends, as the code tells it
 abbrev Ending : Type 0
 Ending = Answer (Unit {0} × ℕ)
 
@@ -59,12 +59,6 @@ module _ (d : List ℕ) (at : ℕ) (h : at ≤ length d) where
   abbrev Ends : {A : Type 0} → Reader A → Ending → Type 0
   Ends p x = x ≡ pass_at p d at
 
-  pub bytes_past : (n : ℕ) → length d - at < n → Ends (bytes n block_past_data) (refused block_past_data)
-  bytes_past n l = rw (bytes-short d at n block_past_data l)
-
-  pub bytes-here : (n : ℕ) → n ≤ length d - at → Ends (bytes n block_past_data) (accepted (tt, at + n))
-  bytes-here n l = rw (bytes-at d at n block_past_data h l, place_of d (at + n) (omega arith))
-
   -- n bytes behind k that are there, counted together
   bytes_with : (k n : ℕ) → k ≤ length d - at → {x : Ending} → Ends (bytes (k + n) block_past_data) x → x ≡ pass_at (bytes n block_past_data) d (at + k)
   bytes_with k n l e =
@@ -73,11 +67,11 @@ module _ (d : List ℕ) (at : ℕ) (h : at ≤ length d) where
       (λ j. rw (bytes-at d at (k + n) block_past_data h j, bytes-at d (at + k) n block_past_data (omega arith) (omega arith), i))
       (λ j. rw (bytes-short d at (k + n) block_past_data (lt_of_not-le j), bytes-short d (at + k) n block_past_data (omega arith)))
 
-  pub registers-none : {z : RegisterSize} → z ≡ Unknown → Ends (register_block (size_meaning z)) (refused no_register_size)
+  pub registers-none : {z : Optional ℕ} → z ≡ None → Ends (register_block (size_meaning z)) (refused no_register_size)
   unfolding register_block
   registers-none e = rw e
 
-  pub registers-some : {z : RegisterSize} {n : ℕ} {x : Ending} → z ≡ Bytes n → Ends (bytes n block_past_data) x → Ends (register_block (size_meaning z)) x
+  pub registers-some : {z : Optional ℕ} {n : ℕ} {x : Ending} → z ≡ Some n → Ends (bytes n block_past_data) x → Ends (register_block (size_meaning z)) x
   unfolding register_block
   registers-some {n} e g = rw e (g ∙ end_of (length d) (bytes n block_past_data (drop at d)) trace.registers)
 
@@ -211,12 +205,12 @@ registers_carried (trace.variable m v) = refl
 -- ---- a block that was judged
 
 -- r tells where the block at `at` ends
-pub record Ended (f : Format) (size : Option ℕ) (seen : Bool) (d : List ℕ) (at : ℕ) (r : BlockEnd) : Type 0 where
+pub record Ended (f : Format) (size : Option ℕ) (seen : Bool) (d : List ℕ) (at : ℕ) (r : Result ℕ Refusal) : Type 0 where
   pub inside : at < length d
   pub answers : end_meaning r ≡ pass_at (block_after f size seen) d at
 
 -- a block by itself, as `block_end` judges it
-pub judged : {f : Format} {size : Option ℕ} {d : List ℕ} {at : ℕ} {r : BlockEnd} → at < length d → end_meaning r ≡ pass_at (block f size) d at
+pub judged : {f : Format} {size : Option ℕ} {d : List ℕ} {at : ℕ} {r : Result ℕ Refusal} → at < length d → end_meaning r ≡ pass_at (block f size) d at
     → Ended f size false d at r
 unfolding block
 judged h e = record { inside = h; answers = e }
@@ -229,7 +223,7 @@ pub record BlockRead (f : Format) (size : Option ℕ) (seen : Bool) (d : List �
   pub within : m ≤ length d
   pub carried : carried_by value ≡ kind_at f d at
 
-module _ {f : Format} {size : Option ℕ} {seen : Bool} {d : List ℕ} {at : ℕ} {r : BlockEnd} (h : Ended f size seen d at r) where
+module _ {f : Format} {size : Option ℕ} {seen : Bool} {d : List ℕ} {at : ℕ} {r : Result ℕ Refusal} (h : Ended f size seen d at r) where
   -- the block that stands there carries what its letter says
   carries : (b : Block) (rest : List ℕ) → block_of f size (get_or d at 0) (drop (at + 1) d) ≡ accepted (b, rest) → carried_by b ≡ kind_at f d at
   unfolding block_of
@@ -254,10 +248,10 @@ module _ {f : Format} {size : Option ℕ} {seen : Bool} {d : List ℕ} {at : ℕ
       by false false true e = rw (← j) (variable_carries d (at + 1) k f b rest e)
       by false false false e = never e
 
-  pub block_refused : {n : ℕ} → r ≡ blockend.Refused n → block_after f size seen (drop at d) ≡ refused n
-  block_refused {n} e = not_read (λ i a. tt {0}) (block_after f size seen) d at n (at_case end_meaning e h.answers)
+  pub block_refused : {n : Refusal} → r ≡ Err n → block_after f size seen (drop at d) ≡ refused (number n)
+  block_refused {n} e = not_read (λ i a. tt {0}) (block_after f size seen) d at (number n) (at_case end_meaning e h.answers)
 
-  pub block_read : {m : ℕ} → r ≡ blockend.At m → BlockRead f size seen d at m
+  pub block_read : {m : ℕ} → r ≡ Ok m → BlockRead f size seen d at m
   block_read {m} e = by (seen && eqb (get_or d at 0) 0x52) (letter_read f size seen d at h.inside) (at_case end_meaning e h.answers)
     where
       by : (second : Bool) → block_after f size seen (drop at d) ≡ cond second (refuse second_registers) (block_of f size (get_or d at 0)) (drop (at + 1) d)
@@ -274,7 +268,7 @@ module _ {f : Format} {size : Option ℕ} {seen : Bool} {d : List ℕ} {at : ℕ
           }
 
   -- of the letters that are neither `M` nor `V` only `R` begins a block
-  pub registers-read : NoOther d at → {m : ℕ} → r ≡ blockend.At m → get_or d at 0 ≡ 82
+  pub registers-read : NoOther d at → {m : ℕ} → r ≡ Ok m → get_or d at 0 ≡ 82
   registers-read o {m} e = by (eqb (get_or d at 0) 82) refl
     where
       letter : LetterAt f d at
@@ -285,7 +279,7 @@ module _ {f : Format} {size : Option ℕ} {seen : Bool} {d : List ℕ} {at : ℕ
       by false i = never (is_none letter size seen (eqb-false (get_or d at 0) 82 i) o ∙ sym (at_case end_meaning e h.answers))
 
   -- a block that is read is one of variable n exactly where its letter and number say so
-  pub number_read : (n : ℕ) {m : ℕ} (e : r ≡ blockend.At m) → has_number n (block_read e).value ≡ number_at f d at n
+  pub number_read : (n : ℕ) {m : ℕ} (e : r ≡ Ok m) → has_number n (block_read e).value ≡ number_at f d at n
   number_read n {m} e =
       let b = block_read e in
       number_carried n b.value ∙ ap (carries_number n) b.carried
@@ -304,7 +298,7 @@ module _ {f : Format} {size : Option ℕ} {seen : Bool} {d : List ℕ} {at : ℕ
       by false false false i j k = absurd (eqb-false (get_or d at 0) 82 i (registers-read (eqb-false (get_or d at 0) 77 j, eqb-false (get_or d at 0) 86 k) e))
 
   -- it is a register block exactly where its letter is `R`
-  registers_letter : {m : ℕ} (e : r ≡ blockend.At m) → is_registers (block_read e).value ≡ eqb (get_or d at 0) 0x52
+  registers_letter : {m : ℕ} (e : r ≡ Ok m) → is_registers (block_read e).value ≡ eqb (get_or d at 0) 0x52
   registers_letter e =
       let b = block_read e in
       registers_carried b.value ∙ ap carries_registers b.carried ∙ by (eqb (get_or d at 0) 0x52) (eqb (get_or d at 0) 0x4D)
@@ -319,26 +313,26 @@ module _ {f : Format} {size : Option ℕ} {seen : Bool} {d : List ℕ} {at : ℕ
 
 -- ---- what a step shows
 
-module _ {f : Format} {size : Option ℕ} {d : List ℕ} {at : ℕ} {r : BlockEnd} (h : Ended f size false d at r) where
-  pub shown_refused : {C : Type 0} (view : ℕ → Block → C) {n : ℕ} → r ≡ blockend.Refused n → refused n ≡ step_at view (block f size) d at
+module _ {f : Format} {size : Option ℕ} {d : List ℕ} {at : ℕ} {r : Result ℕ Refusal} (h : Ended f size false d at r) where
+  pub shown_refused : {C : Type 0} (view : ℕ → Block → C) {n : Refusal} → r ≡ Err n → refused (number n) ≡ step_at view (block f size) d at
   unfolding block
-  shown_refused view {n} e = sym (step_fault view (block f size) d at n h.inside (block_refused h e))
+  shown_refused view {n} e = sym (step_fault view (block f size) d at (number n) h.inside (block_refused h e))
 
-  shown_as : {C : Type 0} (view : ℕ → Block → C) {m : ℕ} (e : r ≡ blockend.At m) {v : C} → v ≡ view at (block_read h e).value
+  shown_as : {C : Type 0} (view : ℕ → Block → C) {m : ℕ} (e : r ≡ Ok m) {v : C} → v ≡ view at (block_read h e).value
       → accepted (some (v, m)) ≡ step_at view (block f size) d at
   unfolding block
   shown_as view {m} e g =
       let b = block_read h e in
       ap (λ v. accepted (some (v, m))) g ∙ sym (step_read view (block f size) d at b.value m h.inside b.within b.reads)
 
-  pub shown_block_lem : {m : ℕ} → r ≡ blockend.At m → {k : Carried} → k ≡ kind_at f d at
+  pub shown_block_lem : {m : ℕ} → r ≡ Ok m → {k : Carried} → k ≡ kind_at f d at
       → accepted (some ((at, k), m)) ≡ step_at block_seen (block f size) d at
   shown_block_lem e g = shown_as block_seen e (ap (λ k. (at, k)) (g ∙ sym (block_read h e).carried))
 
-  pub shown_number : (n : ℕ) {m : ℕ} → r ≡ blockend.At m → {t : Bool} → t ≡ number_at f d at n
+  pub shown_number : (n : ℕ) {m : ℕ} → r ≡ Ok m → {t : Bool} → t ≡ number_at f d at n
       → accepted (some (t, m)) ≡ step_at (λ i b. has_number n b) (block f size) d at
   shown_number n e g = shown_as (λ i b. has_number n b) e (g ∙ sym (number_read h n e))
 
-  pub shown_registers : {m : ℕ} → r ≡ blockend.At m → {t : Bool} → t ≡ eqb (get_or d at 0) 0x52
+  pub shown_registers : {m : ℕ} → r ≡ Ok m → {t : Bool} → t ≡ eqb (get_or d at 0) 0x52
       → accepted (some (t, m)) ≡ step_at (λ i b. is_registers b) (block f size) d at
   shown_registers e g = shown_as (λ i b. is_registers b) e (g ∙ sym (registers_letter h e))

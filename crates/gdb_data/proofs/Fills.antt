@@ -19,8 +19,9 @@ use Rattle.gdb_format.specs.Decode.{block_after, seen_after}
 use Rattle.gdb_format.specs.ExactBlock.{shorter-block-after}
 use Rattle.gdb_format.specs.declared.Format.{Format}
 use Rattle.gdb_data.specs.Blocks.{Carried, registers, memory, variable, carried_by, kind_at, blocks_fill, NoOther}
-use Rattle.gdb_data.specs.declared.BlockEnd.{BlockEnd}
-use Rattle.gdb_data.specs.declared.BlockEnd.TheVariants as blockend
+use Rattle.std.specs.Prelude.{Result, Ok, Err}
+use Rattle.refusals.specs.Number.{number}
+use Rattle.refusals.specs.declared.Refusal.{Refusal}
 use Rattle.gdb_data.proofs.BlockLaws.{Ended, block_refused, block_read, registers-read}
 
 fill_more : (x : Answer (List Block)) (b : Block) → next (next x (λ l. accepted (b ∷ l))) (λ l. accepted (tt {0})) ≡ next x (λ l. accepted (tt {0}))
@@ -62,12 +63,12 @@ module _ (f : Format) (size : Option ℕ) (seen : Bool) (d : List ℕ) (at : ℕ
       next (to_end_after (block_after f size) seen_after (seen_after seen r.0) r.1) (λ l. accepted (r.0 ∷ l)))
   fill_step h = after_step (block_after f size) seen_after (shorter-block-after f size) seen (drop at d) (omega (arith, length-drop at d))
 
-module _ {f : Format} {size : Option ℕ} {seen : Bool} {d : List ℕ} {at : ℕ} {r : BlockEnd} (h : Ended f size seen d at r) where
-  pub fill_refused : {n : ℕ} → r ≡ blockend.Refused n → refused n ≡ blocks_fill f size seen (drop at d)
+module _ {f : Format} {size : Option ℕ} {seen : Bool} {d : List ℕ} {at : ℕ} {r : Result ℕ Refusal} (h : Ended f size seen d at r) where
+  pub fill_refused : {n : Refusal} → r ≡ Err n → refused (number n) ≡ blocks_fill f size seen (drop at d)
   fill_refused e = rw (fill_step f size seen d at h.inside, block_refused h e)
 
   -- to the next block, with what was seen then
-  pub fill_turn : {m : ℕ} → r ≡ blockend.At m → {now : Bool} → now ≡ seen || eqb (get_or d at 0) 82
+  pub fill_turn : {m : ℕ} → r ≡ Ok m → {now : Bool} → now ≡ seen || eqb (get_or d at 0) 82
       → (at < m) × (m ≤ length d) × (blocks_fill f size now (drop m d) ≡ blocks_fill f size seen (drop at d))
   fill_turn {m} e i =
       let b = block_read h e in
@@ -77,11 +78,11 @@ module _ {f : Format} {size : Option ℕ} {seen : Bool} {d : List ℕ} {at : ℕ
       (b.later, b.within, rw i (sym (rw (fill_step f size seen d at h.inside, b.reads, is) (fill_more rest c))))
 
 -- another block than one of registers: what was seen before it is seen after it
-pub other-turn : {f : Format} {size : Option ℕ} {seen : Bool} {d : List ℕ} {at : ℕ} {r : BlockEnd} → Ended f size seen d at r → (get_or d at 0 ≡ 82 → ⊥)
-    → {m : ℕ} → r ≡ blockend.At m → (at < m) × (m ≤ length d) × (blocks_fill f size seen (drop m d) ≡ blocks_fill f size seen (drop at d))
+pub other-turn : {f : Format} {size : Option ℕ} {seen : Bool} {d : List ℕ} {at : ℕ} {r : Result ℕ Refusal} → Ended f size seen d at r → (get_or d at 0 ≡ 82 → ⊥)
+    → {m : ℕ} → r ≡ Ok m → (at < m) × (m ≤ length d) × (blocks_fill f size seen (drop m d) ≡ blocks_fill f size seen (drop at d))
 other-turn {seen} {d} {at} h o e = fill_turn h e (rw (ne_eqb (get_or d at 0) 82 o) (sym (or-false seen)))
 
 -- a register block: one is seen after it
-pub registers-turn : {f : Format} {size : Option ℕ} {seen : Bool} {d : List ℕ} {at : ℕ} {r : BlockEnd} → Ended f size seen d at r → NoOther d at
-    → {m : ℕ} → r ≡ blockend.At m → (at < m) × (m ≤ length d) × (blocks_fill f size true (drop m d) ≡ blocks_fill f size seen (drop at d))
+pub registers-turn : {f : Format} {size : Option ℕ} {seen : Bool} {d : List ℕ} {at : ℕ} {r : Result ℕ Refusal} → Ended f size seen d at r → NoOther d at
+    → {m : ℕ} → r ≡ Ok m → (at < m) × (m ≤ length d) × (blocks_fill f size true (drop m d) ≡ blocks_fill f size seen (drop at d))
 registers-turn {seen} h o e = fill_turn h e (rw (registers-read h o e) (sym (or-true seen)))

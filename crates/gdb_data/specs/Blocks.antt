@@ -1,10 +1,15 @@
 -- What the steps over a frame's blocks answer, in the paper's terms.
 -- Assumes nothing: these are definitions.
-use Rattle.std.specs.Prelude.{◌≡◌, Bool, true, false, cond, ◌&&◌, ℕ, ◌+◌, ◌<◌, ◌≤◌, List, length, drop, get_or, eqb, ℤ}
-use Rattle.std.proofs.Math.Option.{Option, none, some}
+use Rattle.std.specs.Prelude.{◌≡◌, Bool, false, cond, ◌&&◌, ℕ, ◌+◌, ◌<◌, ◌≤◌, List, length, drop, get_or, eqb, ℤ}
+use Rattle.std.specs.Prelude.{Some, None, Result, Ok, Err}
+use Rattle.std.specs.Prelude.{Option as Optional}
+use Rattle.std.proofs.Math.Option.{Option}
 use Rattle.fields.specs.Number.{word_at}
 use Rattle.fields.specs.Signed.{signed64}
+use Rattle.refusals.specs.Number.{number}
+use Rattle.refusals.specs.declared.Refusal.{Refusal}
 use Rattle.fields.specs.Answer.{Answer, accepted, refused, next}
+use Rattle.fields.specs.Meaning.{answer_by, held_by}
 use Rattle.fields.specs.Reader.{to_end_after, pass_at}
 use Rattle.gdb_format.specs.Trace.{Block}
 use Rattle.gdb_format.specs.Trace as trace
@@ -14,17 +19,7 @@ use Rattle.gdb_data.specs.declared.BlockKind.{BlockKind}
 use Rattle.gdb_data.specs.declared.BlockKind.TheVariants.{Registers, Memory, Variable}
 use Rattle.gdb_data.specs.declared.BlockRecord.{BlockRecord}
 use Rattle.gdb_data.specs.declared.BlockStep.{BlockStep}
-use Rattle.gdb_data.specs.declared.BlockStep.TheVariants as step
 use Rattle.gdb_data.specs.declared.SearchStep.{SearchStep}
-use Rattle.gdb_data.specs.declared.SearchStep.TheVariants as searchstep
-use Rattle.gdb_data.specs.declared.BlockEnd.{BlockEnd}
-use Rattle.gdb_data.specs.declared.BlockEnd.TheVariants as blockend
-use Rattle.gdb_data.specs.declared.OtherBlock.{OtherBlock}
-use Rattle.gdb_data.specs.declared.OtherBlock.TheVariants as other
-use Rattle.gdb_data.specs.declared.Stop.{Stop}
-use Rattle.gdb_data.specs.declared.Stop.TheVariants as stop
-use Rattle.gdb_data.specs.declared.Verdict.{Verdict}
-use Rattle.gdb_data.specs.declared.Verdict.TheVariants as verdict
 
 -- what a block's kind goes with: for memory its address and length, for a variable its number and value
 pub data Carried : Type 0 where
@@ -50,10 +45,8 @@ kind_meaning (Variable n v) = variable n v
 abbrev pub block_in : BlockRecord → ℕ × Carried
 block_in r = (r.place, kind_meaning r.kind)
 
-abbrev pub block_step_meaning : BlockStep → Answer (Option ((ℕ × Carried) × ℕ))
-block_step_meaning step.End = accepted none
-block_step_meaning (step.Block r m) = accepted (some (block_in r, m))
-block_step_meaning (step.Refused n) = refused n
+abbrev pub block_step_meaning : Result (Optional BlockStep) Refusal → Answer (Option ((ℕ × Carried) × ℕ))
+block_step_meaning r = answer_by (held_by (λ s. (block_in s.record, s.next))) r
 
 -- the kind of the block whose letter stands at `at`
 abbrev pub kind_at : Format → List ℕ → ℕ → Carried
@@ -69,24 +62,16 @@ has_number n (trace.memory a b) = false
 has_number n (trace.variable m v) = eqb m n
 
 -- what `SearchStep` says: whether the block is one that is sought, and the place after it
-abbrev pub search_meaning : SearchStep → Answer (Option (Bool × ℕ))
-search_meaning searchstep.End = accepted none
-search_meaning (searchstep.Sought m) = accepted (some (true, m))
-search_meaning (searchstep.Other m) = accepted (some (false, m))
-search_meaning (searchstep.Refused n) = refused n
+abbrev pub search_meaning : Result (Optional SearchStep) Refusal → Answer (Option (Bool × ℕ))
+search_meaning r = answer_by (held_by (λ s. (s.sought, s.next))) r
 
 -- the letter at `at` is `V`, and the number behind it n
 abbrev pub number_at : Format → List ℕ → ℕ → ℕ → Bool
 number_at f d at n = eqb (get_or d at 0) 0x56 && eqb (word_at f.order 4 d (at + 1)) n
 
 -- of a block that is passed over nothing is told but where it ends
-abbrev pub end_meaning : BlockEnd → Answer (Unit {0} × ℕ)
-end_meaning (blockend.At m) = accepted (tt, m)
-end_meaning (blockend.Refused n) = refused n
-
-abbrev pub verdict_meaning : Verdict → Answer (Unit {0})
-verdict_meaning verdict.Sound = accepted tt
-verdict_meaning (verdict.Refused n) = refused n
+abbrev pub end_meaning : Result ℕ Refusal → Answer (Unit {0} × ℕ)
+end_meaning r = answer_by (λ m. (tt, m)) r
 
 -- blocks fill the data exactly, where `seen` tells whether a register block stands before them
 abbrev pub blocks_fill : Format → Option ℕ → Bool → List ℕ → Answer (Unit {0})
@@ -98,15 +83,20 @@ blocks_fill f size seen d = next (to_end_after (block_after f size) seen_after s
 abbrev pub NoOther : List ℕ → ℕ → Type 0
 NoOther d at = (get_or d at 0 ≡ 0x4D → ⊥) × (get_or d at 0 ≡ 0x56 → ⊥)
 
--- a memory or variable block stands at `at`, and r tells where it ends; or neither does
-abbrev pub OtherAt : Format → List ℕ → ℕ → OtherBlock → Type 0
-OtherAt f d at (other.Block r) = (get_or d at 0 ≡ 0x52 → ⊥) × ((size : Option ℕ) (seen : Bool) → end_meaning r ≡ pass_at (block_after f size seen) d at)
-OtherAt f d at other.Neither = NoOther d at
+-- a memory or variable block stands at `at`, and r tells where it ends
+abbrev pub OtherEnds : Format → List ℕ → ℕ → Result ℕ Refusal → Type 0
+OtherEnds f d at r = (get_or d at 0 ≡ 0x52 → ⊥) × ((size : Option ℕ) (seen : Bool) → end_meaning r ≡ pass_at (block_after f size seen) d at)
+
+-- r tells that of such a block, or that none stands there
+abbrev pub OtherAt : Format → List ℕ → ℕ → Result (Optional ℕ) Refusal → Type 0
+OtherAt f d at (Ok (Some m)) = OtherEnds f d at (Ok m)
+OtherAt f d at (Err e) = OtherEnds f d at (Err e)
+OtherAt f d at (Ok None) = NoOther d at
 
 -- a walk over them from `from` on: they fill the data; or what is behind them, from another letter on, is filled just where the whole is; or their refusal
-abbrev pub StopsAt : Format → List ℕ → ℕ → Stop → Type 0
-StopsAt f d from stop.End = (size : Option ℕ) (seen : Bool) → accepted tt ≡ blocks_fill f size seen (drop from d)
-StopsAt f d from (stop.Letter at) =
+abbrev pub StopsAt : Format → List ℕ → ℕ → Result (Optional ℕ) Refusal → Type 0
+StopsAt f d from (Ok None) = (size : Option ℕ) (seen : Bool) → accepted tt ≡ blocks_fill f size seen (drop from d)
+StopsAt f d from (Ok (Some at)) =
     (from ≤ at) × (at < length d) × NoOther d at
     × ((size : Option ℕ) (seen : Bool) → blocks_fill f size seen (drop at d) ≡ blocks_fill f size seen (drop from d))
-StopsAt f d from (stop.Refused n) = (size : Option ℕ) (seen : Bool) → refused n ≡ blocks_fill f size seen (drop from d)
+StopsAt f d from (Err e) = (size : Option ℕ) (seen : Bool) → refused (number e) ≡ blocks_fill f size seen (drop from d)

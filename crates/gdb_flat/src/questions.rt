@@ -1,67 +1,62 @@
 // The answers about a GDB trace as C has them.
 ghost use Rattle.std.specs.Prelude.{◌≡◌};
+ghost use Rattle.fields.specs.Meaning.{answer_of};
 ghost use Rattle.gdb_data.specs.Blocks.{kind_meaning};
-ghost use Rattle.gdb_frames.specs.Questions.{count_meaning, mark_meaning, place_meaning, line_meaning};
-ghost use Rattle.gdb_blocks.specs.Search.{block_meaning, value_meaning};
-ghost use Rattle.gdb_seek.specs.Found.{frame_answer_meaning};
-ghost use Rattle.gdb_table.specs.Records.{table_meaning};
+ghost use Rattle.gdb_frames.specs.Questions.{place_meaning, line_meaning};
+ghost use Rattle.gdb_blocks.specs.Search.{block_meaning};
+ghost use Rattle.gdb_seek.specs.Found.{found_meaning};
 ghost use Rattle.gdb_flat.specs.Flat.{flat_count, flat_mark, flat_place, flat_frame, kind_number, flat_line, shown_block, flat_block, flat_value};
 
-use gdb_blocks::{BlockAnswer, ValueAnswer};
 use gdb_data::{BlockKind, BlockRecord};
 use gdb_format::LineKind;
-use gdb_frames::{CountAnswer, LineAnswer, MarkAnswer, PlaceAnswer};
-use gdb_seek::FrameAnswer;
-use gdb_table::TableAnswer;
+use gdb_frames::{DescriptionLine, Part};
+use gdb_seek::FoundFrame;
+use refusals::Refusal;
 
 #[repr(C)]
-#[derive(Clone, Copy)]
+#[derive(Clone, Copy, Debug, PartialEq, Eq)]
 pub struct Count {
     pub refusal: u8,
     pub count: usize,
 }
 
-#[tactic(auto, unfolding(crate::specs::Flat::flat_count))]
-pub fn flat_count(answer: CountAnswer) -> Count
-    ensures { result ≡ flat_count (count_meaning answer) }
-{
-    match answer {
-        CountAnswer::Frames(count) => Count { refusal: 0, count },
-        CountAnswer::Refused(refusal) => Count { refusal, count: 0 },
-    }
-}
+impl From<Result<usize, Refusal>> for Count {
+    ghost from_gives = { λ answer count. count ≡ flat_count (answer_of answer) };
 
-#[tactic(auto, unfolding(crate::specs::Flat::flat_count))]
-pub fn flat_table(answer: TableAnswer) -> Count
-    ensures { result ≡ flat_count (table_meaning answer) }
-{
-    match answer {
-        TableAnswer::Frames(count) => Count { refusal: 0, count },
-        TableAnswer::Refused(refusal) => Count { refusal, count: 0 },
+    #[tactic(auto, unfolding(crate::specs::Flat::flat_count))]
+    fn from(answer: Result<usize, Refusal>) -> Self {
+        match answer {
+            Ok(count) => Count { refusal: 0, count },
+            Err(e) => Count {
+                refusal: e.number(),
+                count: 0,
+            },
+        }
     }
 }
 
 #[repr(C)]
-#[derive(Clone, Copy)]
+#[derive(Clone, Copy, Debug, PartialEq, Eq)]
 pub struct Mark {
     pub refusal: u8,
     pub marked: u8,
 }
 
-#[tactic(auto, unfolding(crate::specs::Flat::flat_mark))]
-pub fn flat_mark(answer: MarkAnswer) -> Mark
-    ensures { result ≡ flat_mark (mark_meaning answer) }
-{
-    match answer {
-        MarkAnswer::Marked => Mark {
-            refusal: 0,
-            marked: 1,
-        },
-        MarkAnswer::Unmarked => Mark {
-            refusal: 0,
-            marked: 0,
-        },
-        MarkAnswer::Refused(refusal) => Mark { refusal, marked: 0 },
+impl From<Result<bool, Refusal>> for Mark {
+    ghost from_gives = { λ answer mark. mark ≡ flat_mark (answer_of answer) };
+
+    #[tactic(auto, unfolding(crate::specs::Flat::flat_mark))]
+    fn from(answer: Result<bool, Refusal>) -> Self {
+        match answer {
+            Ok(marked) => Mark {
+                refusal: 0,
+                marked: marked as u8,
+            },
+            Err(e) => Mark {
+                refusal: e.number(),
+                marked: 0,
+            },
+        }
     }
 }
 
@@ -69,18 +64,11 @@ pub fn flat_mark(answer: MarkAnswer) -> Mark
 fn kind_number(kind: LineKind) -> u8
     ensures { result ≡ kind_number kind }
 {
-    match kind {
-        LineKind::Other => 0,
-        LineKind::Registers => 1,
-        LineKind::Status => 2,
-        LineKind::Tracepoint => 3,
-        LineKind::Variable => 4,
-        LineKind::Target => 5,
-    }
+    kind as u8
 }
 
 #[repr(C)]
-#[derive(Clone, Copy)]
+#[derive(Clone, Copy, Debug, PartialEq, Eq)]
 pub struct Line {
     pub refusal: u8,
     pub kind: u8,
@@ -88,58 +76,58 @@ pub struct Line {
     pub length: usize,
 }
 
-#[tactic(auto, unfolding(crate::specs::Flat::flat_line))]
-pub fn flat_line(answer: LineAnswer) -> Line
-    ensures { result ≡ flat_line (line_meaning answer) }
-{
-    match answer {
-        LineAnswer::Line {
-            kind,
-            place,
-            length,
-        } => Line {
-            refusal: 0,
-            kind: kind_number(kind),
-            place,
-            length,
-        },
-        LineAnswer::Refused(refusal) => Line {
-            refusal,
-            kind: 0,
-            place: 0,
-            length: 0,
-        },
+impl From<Result<DescriptionLine, Refusal>> for Line {
+    ghost from_gives = { λ answer line. line ≡ flat_line (line_meaning answer) };
+
+    #[tactic(auto, unfolding(crate::specs::Flat::flat_line))]
+    fn from(answer: Result<DescriptionLine, Refusal>) -> Self {
+        match answer {
+            Ok(line) => Line {
+                refusal: 0,
+                kind: kind_number(line.kind),
+                place: line.part.place,
+                length: line.part.length,
+            },
+            Err(e) => Line {
+                refusal: e.number(),
+                kind: 0,
+                place: 0,
+                length: 0,
+            },
+        }
     }
 }
 
 #[repr(C)]
-#[derive(Clone, Copy)]
+#[derive(Clone, Copy, Debug, PartialEq, Eq)]
 pub struct Place {
     pub refusal: u8,
     pub place: usize,
     pub length: usize,
 }
 
-#[tactic(auto, unfolding(crate::specs::Flat::flat_place))]
-pub fn flat_place(answer: PlaceAnswer) -> Place
-    ensures { result ≡ flat_place (place_meaning answer) }
-{
-    match answer {
-        PlaceAnswer::At { place, length } => Place {
-            refusal: 0,
-            place,
-            length,
-        },
-        PlaceAnswer::Refused(refusal) => Place {
-            refusal,
-            place: 0,
-            length: 0,
-        },
+impl From<Result<Part, Refusal>> for Place {
+    ghost from_gives = { λ answer place. place ≡ flat_place (place_meaning answer) };
+
+    #[tactic(auto, unfolding(crate::specs::Flat::flat_place))]
+    fn from(answer: Result<Part, Refusal>) -> Self {
+        match answer {
+            Ok(Part { place, length }) => Place {
+                refusal: 0,
+                place,
+                length,
+            },
+            Err(e) => Place {
+                refusal: e.number(),
+                place: 0,
+                length: 0,
+            },
+        }
     }
 }
 
 #[repr(C)]
-#[derive(Clone, Copy)]
+#[derive(Clone, Copy, Debug, PartialEq, Eq)]
 pub struct FramePart {
     pub refusal: u8,
     pub place: usize,
@@ -147,32 +135,30 @@ pub struct FramePart {
     pub heads: usize,
 }
 
-#[tactic(auto, unfolding(crate::specs::Flat::flat_frame))]
-pub fn flat_frame(answer: FrameAnswer) -> FramePart
-    ensures { result ≡ flat_frame (frame_answer_meaning answer) }
-{
-    match answer {
-        FrameAnswer::At {
-            place,
-            length,
-            heads,
-        } => FramePart {
-            refusal: 0,
-            place,
-            length,
-            heads,
-        },
-        FrameAnswer::Refused(refusal) => FramePart {
-            refusal,
-            place: 0,
-            length: 0,
-            heads: 0,
-        },
+impl From<Result<FoundFrame, Refusal>> for FramePart {
+    ghost from_gives = { λ answer frame. frame ≡ flat_frame (found_meaning answer) };
+
+    #[tactic(auto, unfolding(crate::specs::Flat::flat_frame))]
+    fn from(answer: Result<FoundFrame, Refusal>) -> Self {
+        match answer {
+            Ok(frame) => FramePart {
+                refusal: 0,
+                place: frame.part.place,
+                length: frame.part.length,
+                heads: frame.heads,
+            },
+            Err(e) => FramePart {
+                refusal: e.number(),
+                place: 0,
+                length: 0,
+                heads: 0,
+            },
+        }
     }
 }
 
 #[repr(C)]
-#[derive(Clone, Copy)]
+#[derive(Clone, Copy, Debug, PartialEq, Eq)]
 pub struct Block {
     pub refusal: u8,
     pub letter: u8,
@@ -183,73 +169,79 @@ pub struct Block {
     pub value: i64,
 }
 
-fn shown_block(block: BlockRecord) -> Block
-    ensures { result ≡ shown_block block.place (kind_meaning block.kind) }
-{
-    let place = block.place;
-    let kind = block.kind;
-    match kind {
-        BlockKind::Registers => Block {
-            refusal: 0,
-            letter: b'R',
-            number: 0,
-            place,
-            address: 0,
-            length: 0,
-            value: 0,
-        },
-        BlockKind::Memory(span) => Block {
-            refusal: 0,
-            letter: b'M',
-            number: 0,
-            place,
-            address: span.address,
-            length: span.length,
-            value: 0,
-        },
-        BlockKind::Variable { number, value } => Block {
-            refusal: 0,
-            letter: b'V',
-            number,
-            place,
-            address: 0,
-            length: 0,
-            value,
-        },
+// What a block's kind does not carry is 0.
+const ZEROS: Block = Block {
+    refusal: 0,
+    letter: 0,
+    number: 0,
+    place: 0,
+    address: 0,
+    length: 0,
+    value: 0,
+};
+
+impl From<BlockRecord> for Block {
+    ghost from_gives = { λ record block. block ≡ shown_block record.place (kind_meaning record.kind) };
+
+    fn from(record: BlockRecord) -> Self {
+        let place = record.place;
+        match record.kind {
+            BlockKind::Registers => Block {
+                letter: b'R',
+                place,
+                ..ZEROS
+            },
+            BlockKind::Memory(span) => Block {
+                letter: b'M',
+                place,
+                address: span.address,
+                length: span.length,
+                ..ZEROS
+            },
+            BlockKind::Variable { number, value } => Block {
+                letter: b'V',
+                place,
+                number,
+                value,
+                ..ZEROS
+            },
+        }
     }
 }
 
-#[tactic(auto, unfolding(crate::specs::Flat::flat_block))]
-pub fn flat_block(answer: BlockAnswer) -> Block
-    ensures { result ≡ flat_block (block_meaning answer) }
-{
-    match answer {
-        BlockAnswer::Block(block) => shown_block(block),
-        BlockAnswer::Refused(refusal) => Block {
-            refusal,
-            letter: 0,
-            number: 0,
-            place: 0,
-            address: 0,
-            length: 0,
-            value: 0,
-        },
+impl From<Result<BlockRecord, Refusal>> for Block {
+    ghost from_gives = { λ answer block. block ≡ flat_block (block_meaning answer) };
+
+    #[tactic(auto, unfolding(crate::specs::Flat::flat_block))]
+    fn from(answer: Result<BlockRecord, Refusal>) -> Self {
+        match answer {
+            Ok(record) => Block::from(record),
+            Err(e) => Block {
+                refusal: e.number(),
+                ..ZEROS
+            },
+        }
     }
 }
 
 #[repr(C)]
-#[derive(Clone, Copy)]
+#[derive(Clone, Copy, Debug, PartialEq, Eq)]
 pub struct Value {
     pub refusal: u8,
     pub value: i64,
 }
 
-#[tactic(auto, unfolding(crate::specs::Flat::flat_value))]
-pub fn flat_value(answer: ValueAnswer) -> Value
-    ensures { result ≡ flat_value (value_meaning answer) }
-{
-    match answer {
-        ValueAnswer::Value(value) => Value { refusal: 0, value },
-        ValueAnswer::Refused(refusal) => Value { refusal, value: 0 },
+impl From<Result<i64, Refusal>> for Value {
+    ghost from_gives = { λ answer value. value ≡ flat_value (answer_of answer) };
+
+    #[tactic(auto, unfolding(crate::specs::Flat::flat_value))]
+    fn from(answer: Result<i64, Refusal>) -> Self {
+        match answer {
+            Ok(value) => Value { refusal: 0, value },
+            Err(e) => Value {
+                refusal: e.number(),
+                value: 0,
+            },
+        }
     }
 }

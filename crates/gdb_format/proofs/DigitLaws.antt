@@ -1,25 +1,37 @@
 -- The R line's digits, one by one: what the loop knows, each test of the code, and what the definitions then give.
 -- Assumes nothing.
-use mathlib.Core.Path.{◌≡◌, refl, ◌∙◌}
-use mathlib.Core.Bool.{and-false}
-use mathlib.Core.Option.{Option, none, some}
+use mathlib.Core.Path.{◌≡◌, ◌∙◌}
+use mathlib.Core.Option.{none}
 use Prim.Native.Nat.{ℕ, suc, ◌+◌, ◌-◌, ◌*◌, ◌^◌, ◌<◌, ◌≤◌}
-use native.Mathlib.Nat.{pow-suc, pow-le-pow_right, mul-le-mul_left}
+use native.Mathlib.Decide.{dec_le}
+use mathlib.Core.Logic.{by_cases}
+use Rattle.std.specs.Prelude.{Some, None}
+use Rattle.std.specs.Prelude.{Option as Optional}
+use Rattle.gdb_format.specs.Opening.{below}
+use native.Mathlib.Nat.{lt_of_not-le, pow-suc, pow-le-pow_right, mul-le-mul_left}
 use native.Mathlib.Omega.{arith}
 use mathlib.Core.List.{List}
-use lib.ListN.{length, drop, get_or, length-drop, drop_of_length-le}
-use lib.Dec.{leb}
+use lib.ListN.{length, take, drop, get_or, length-drop}
+use Rattle.std.proofs.lemmas.List.{get_or-take, get_or-drop}
 use borrow.Author.Tests.{le-leb, lt-leb}
 use Rattle.fields.specs.Lists.{clash, drop-one}
 use Rattle.gdb_format.specs.Settings.{radix}
 use Rattle.gdb_format.specs.Lines.{most_digits, digit, numeral, limited, size_of}
 use Rattle.gdb_format.specs.LineLaws.{radix_most}
-use Rattle.gdb_format.specs.Opening.{digits_of}
 use Rattle.gdb_format.specs.declared.Base.{Base}
 use Rattle.gdb_format.specs.declared.Base.TheVariants.{Ten, Sixteen}
 use Rattle.gdb_format.specs.declared.Format.{Format}
-use Rattle.gdb_format.specs.declared.Digits.{Digits}
-use Rattle.gdb_format.specs.declared.Digits.TheVariants.{Value, Bad}
+
+-- what the code has of a digit: its value, or that it is none of the base
+pub digit-some : {base d w : ℕ} → Some w ≡ below base d → (w ≡ d) × (w < base)
+digit-some {base} {d} {w} e = by_cases (dec_le base d) (λ h. let z : ◌≡◌ {A = Optional ℕ} (Some w) None = e ∙ rw (le-leb base d h) in clash (cc)) (λ h. let z : ◌≡◌ {A = Optional ℕ} (Some w) (Some d) = e ∙ rw (lt-leb base d (lt_of_not-le h)) in (cc, let q : w ≡ d = cc in rw q (lt_of_not-le h)))
+
+pub digit-none : {base d : ℕ} → None ≡ below base d → base ≤ d
+digit-none {base} {d} e = by_cases (dec_le base d) (λ h. h) (λ h. let z : ◌≡◌ {A = Optional ℕ} None (Some d) = e ∙ rw (lt-leb base d (lt_of_not-le h)) in clash (cc))
+
+-- the digits are what stands behind the `R `
+pub digit-there : (l : List ℕ) (i : ℕ) → 2 + i < length l → get_or (take (length l - 2) (drop 2 l)) i 0 ≡ get_or l (2 + i) 0
+digit-there l i h = get_or-take (length l - 2) (drop 2 l) i 0 (omega arith) ∙ get_or-drop 2 l i 0
 
 -- what the code has of the base: what each place counts, and how many digits an R line may have
 pub record BaseOf (f : Format) (base most : ℕ) : Type 0 where
@@ -81,30 +93,5 @@ module _ {f : Format} {base most : ℕ} (g : BaseOf f base most) {l : List ℕ} 
       let j : length (drop 2 l) ≤ most = omega (arith, length-drop 2 l, d.at_most) in
       rw (← g.digits, ← g.counts, le-leb 1 (length (drop 2 l)) h, le-leb (length (drop 2 l)) most j, d.same)
 
-  pub no_digit : {w : ℕ} → w ≡ value → k < length l → base ≤ w → Bad ≡ digits_of (size_of f l)
-  no_digit e h i = rw (size-form, drop-one l k h, le-leb base value (omega arith))
-
-  pub size-some : length l ≤ k → v ≤ 65535 → Value v ≡ digits_of (size_of f l)
-  size-some h e = rw (size-form, drop_of_length-le l h, le-leb v 65535 e)
-
-  pub size-over : length l ≤ k → 65535 < v → Bad ≡ digits_of (size_of f l)
-  size-over h e = rw (size-form, drop_of_length-le l h, lt-leb v 65535 e)
-
--- ---- too few digits, or too many
-
-module _ (f : Format) (l : List ℕ) where
-  pub size-short : length l < 3 → Bad ≡ digits_of (size_of f l)
-  size-short h = rw (lt-leb 1 (length (drop 2 l)) (omega (arith, length-drop 2 l)))
-
-  pub size-long : {base most : ℕ} → BaseOf f base most → most < length l - 2 → Bad ≡ digits_of (size_of f l)
-  size-long {most = most} g h =
-      rw (← g.digits, lt-leb (length (drop 2 l)) most (omega (arith, length-drop 2 l)), and-false (leb 1 (length (drop 2 l))))
-
--- what the digit reader's answer tells of the size
-pub value_of : {r : Digits} {n : ℕ} (x : Option ℕ) → r ≡ Value n → r ≡ digits_of x → x ≡ some n
-value_of none e h = clash (cc)
-value_of (some m) e h = cc
-
-pub bad_of : {r : Digits} (x : Option ℕ) → r ≡ Bad → r ≡ digits_of x → x ≡ none
-bad_of none e h = refl
-bad_of (some m) e h = clash (cc)
+  pub no_digit : k < length l → base ≤ value → none ≡ size_of f l
+  no_digit h i = rw (size-form, drop-one l k h, le-leb base value i)

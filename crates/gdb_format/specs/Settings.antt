@@ -9,8 +9,6 @@ use Rattle.gdb_format.specs.declared.Base.{Base}
 use Rattle.gdb_format.specs.declared.Base.TheVariants.{Ten, Sixteen}
 use Rattle.gdb_format.specs.declared.Settings.{Settings}
 use Rattle.gdb_format.specs.declared.Format.{Format}
-use Rattle.gdb_format.specs.declared.Checked.{Checked}
-use Rattle.gdb_format.specs.declared.Checked.TheVariants.{Known, Refused}
 
 -- byte order is not recorded in a GDB trace, so the caller gives it: 0 little, 1 big
 abbrev pub order_of : ℕ → Answer Order
@@ -36,8 +34,3 @@ settings_of s = next (order_of s.order) (λ o. format_in o s.base)
 -- base 16 unless the caller says 10
 abbrev pub default_settings : ℕ → Settings
 default_settings o = record { order = o; base = 16 }
-
--- what `Checked` says
-abbrev pub format_meaning : Checked → Answer Format
-format_meaning (Known f) = accepted f
-format_meaning (Refused n) = refused n

@@ -1,18 +1,20 @@
 // The GDB trace file: the reader's settings, and the opening (head and description). The format itself is in specs/.
 #![tactic(auto)]
 
-ghost use Rattle.std.specs.Prelude.{◌≡◌, [], ◌+◌, length, drop};
-ghost use Rattle.gdb_format.specs.Settings.{default_settings, radix, format_in, settings_of, format_meaning};
+ghost use Rattle.std.specs.Prelude.{◌≡◌, [], ◌+◌, ◌≤◌, length, drop};
+ghost use Rattle.fields.specs.Meaning.{answer_of, held};
+ghost use Rattle.gdb_format.specs.Settings.{default_settings, radix, base_of, settings_of};
 ghost use Rattle.gdb_format.specs.Lines.{is_register, is_status, kind_of, most_digits, digit, size_of};
 ghost use Rattle.gdb_format.specs.Decode.{description};
-ghost use Rattle.gdb_format.specs.Opening.{line_of, digits_of, register_step, line_step, opening_meaning, lines_seen, opening_seen};
+ghost use Rattle.gdb_format.specs.Opening.{line_of, below, register_step, line_step, opening_meaning, lines_seen, opening_seen};
 
 use fields::Order;
-use refusals::{BAD_ARGUMENT, BAD_HEAD, BAD_LINE, NO_EMPTY_LINE};
+use refusals::Refusal;
+use std::fmt;
 
 // How a file is to be read, in the caller's numbers: the byte order is 0 for little, 1 for big; the base of the R line is 16 or 10.
 #[repr(C)]
-#[derive(Clone, Copy)]
+#[derive(Clone, Copy, Debug, PartialEq, Eq)]
 pub struct Settings {
     pub order: u8,
     pub base: u8,
@@ -26,63 +28,69 @@ pub fn default_settings(order: u8) -> Settings
 }
 
 // The base of the R line's number.
-#[derive(Clone, Copy)]
+#[derive(Clone, Copy, Debug, PartialEq, Eq)]
 pub enum Base {
     Ten,
     Sixteen,
 }
 
-// The same, checked.
-#[derive(Clone, Copy)]
+impl TryFrom<u8> for Base {
+    type Error = Refusal;
+
+    ghost try_from_gives = { λ n r. answer_of r ≡ base_of n };
+
+    fn try_from(number: u8) -> Result<Self, Refusal> {
+        match number {
+            16 => Ok(Base::Sixteen),
+            10 => Ok(Base::Ten),
+            _ => Err(Refusal::BadArgument),
+        }
+    }
+}
+
+// The same as the settings, checked.
+#[derive(Clone, Copy, Debug, PartialEq, Eq)]
 pub struct Format {
     pub order: Order,
     pub base: Base,
 }
 
-#[derive(Clone, Copy)]
-pub enum Checked {
-    Known(Format),
-    Refused(u8),
+// Refused where the byte order is neither 0 nor 1, or the base neither 16 nor 10.
+impl TryFrom<Settings> for Format {
+    type Error = Refusal;
+
+    ghost try_from_gives = { λ s r. answer_of r ≡ settings_of s };
+
+    fn try_from(settings: Settings) -> Result<Self, Refusal> {
+        let order = Order::try_from(settings.order).map_err(|_| Refusal::BadArgument)?;
+        let base = Base::try_from(settings.base)?;
+        Ok(Format { order, base })
+    }
 }
 
-// The format of a known byte order; refused where the base is neither 16 nor 10.
-fn format_in(order: Order, base: u8) -> Checked
-    ensures { format_meaning result ≡ format_in order base }
-{
-    if base == 16 {
-        let base = Base::Sixteen;
-        return Checked::Known(Format { order, base });
-    }
-    if base == 10 {
-        let base = Base::Ten;
-        return Checked::Known(Format { order, base });
-    }
-    Checked::Refused(BAD_ARGUMENT)
-}
-
-// The settings' format; refused where the byte order is neither 0 nor 1, or the base neither 16 nor 10.
-pub fn format_of(settings: Settings) -> Checked
-    ensures { format_meaning result ≡ settings_of settings }
-{
-    let order = settings.order;
-    if order == 0 {
-        return format_in(Order::Little, settings.base);
-    }
-    if order == 1 {
-        return format_in(Order::Big, settings.base);
-    }
-    Checked::Refused(BAD_ARGUMENT)
-}
-
-// A description line's kind, as what it starts with tells.
-#[derive(Clone, Copy)]
+// A description line's kind, as what it starts with tells, in the order of the C header's numbers.
+#[derive(Clone, Copy, Debug, PartialEq, Eq)]
 pub enum LineKind {
+    Other,
     Registers,
     Status,
     Tracepoint,
     Variable,
     Target,
-    Other,
+}
+
+// By its word.
+impl fmt::Display for LineKind {
+    fn fmt<W: fmt::Write>(&self, f: &mut fmt::Formatter<W>) -> fmt::Result {
+        f.write_str(match self {
+            LineKind::Other => "other",
+            LineKind::Registers => "registers",
+            LineKind::Status => "status",
+            LineKind::Tracepoint => "tracepoint",
+            LineKind::Variable => "variable",
+            LineKind::Target => "target",
+        })
+    }
 }
 
 fn is_register(l: &[u8]) -> bool
@@ -118,114 +126,84 @@ pub fn line_kind(l: &[u8]) -> LineKind
     LineKind::Other
 }
 
-#[derive(Clone, Copy)]
-enum Digits {
-    Value(usize),
-    Bad,
-}
+impl Base {
+    // What the place of a digit counts.
+    fn radix(self) -> usize
+        ensures { result ≡ radix self }
+    {
+        match self {
+            Base::Ten => 10,
+            Base::Sixteen => 16,
+        }
+    }
 
-// What the place of a digit counts.
-fn radix_of(base: Base) -> usize
-    ensures { result ≡ radix base }
-{
-    match base {
-        Base::Ten => 10,
-        Base::Sixteen => 16,
+    // How many digits an R line may have.
+    fn most_digits(self) -> usize
+        ensures { result ≡ most_digits self }
+    {
+        match self {
+            Base::Ten => 5,
+            Base::Sixteen => 4,
+        }
     }
 }
 
-// How many digits an R line may have.
-fn most_digits(base: Base) -> usize
-    ensures { result ≡ most_digits base }
+// The value of a digit, letters in either case; none where the byte is no digit of the base.
+fn digit_in(radix: usize, b: u8) -> Option<usize>
+    requires { radix ≤ 16 }
+    ensures { result ≡ below radix (digit b) }
 {
-    match base {
-        Base::Ten => 5,
-        Base::Sixteen => 4,
-    }
-}
-
-// The value of a digit, letters in either case; 16, which is a digit's in no base, for every other byte.
-fn digit_value(b: u8) -> usize
-    ensures { result ≡ digit b }
-{
-    match b {
+    let value = match b {
         b'0'..=b'9' => (b - b'0') as usize,
         b'A'..=b'F' => (b - b'A' + 10) as usize,
         b'a'..=b'f' => (b - b'a' + 10) as usize,
-        _ => 16,
-    }
+        _ => return None,
+    };
+    if value < radix { Some(value) } else { None }
 }
 
 // What stands after the `R ` of an R line: digits of the base, one to five in base 10 and one to four in base 16, and nothing else, value 0 to 65,535.
-fn size_in(format: Format, l: &[u8]) -> Digits
-    ensures { result ≡ digits_of (size_of format l.now) }
+fn size_in(format: Format, l: &[u8]) -> Option<usize>
+    ensures { held result ≡ size_of format l.now }
 {
-    let base = format.base;
-    let radix = radix_of(base);
-    let most = most_digits(base);
-    let n = l.len();
-    if n < 3 {
-        return Digits::Bad;
-    }
-    if most < n - 2 {
-        return Digits::Bad;
+    let radix = format.base.radix();
+    let most = format.base.most_digits();
+    if l.len() < 3 || most < l.len() - 2 {
+        return None;
     }
     let mut v: usize = 0;
-    let mut k: usize = 2;
-    while k < n {
-        let d = digit_value(l[k]);
-        if radix <= d {
-            return Digits::Bad;
-        }
+    for b in &l[2..] {
+        let d = digit_in(radix, *b)?;
         v = v * radix + d;
-        k += 1;
     }
-    if v <= 65535 {
-        Digits::Value(v)
-    } else {
-        Digits::Bad
-    }
+    if v <= 65535 { Some(v) } else { None }
 }
 
-// The size of a register block, where the description says one.
-#[derive(Clone, Copy)]
-pub enum RegisterSize {
-    Unknown,
-    Bytes(usize),
-}
-
-// What the lines so far have said.
-#[derive(Clone, Copy)]
+// What the lines so far have said: the size of a register block, where an R line states one, and whether there was a status line.
+#[derive(Clone, Copy, Debug, PartialEq, Eq)]
 struct Seen {
-    size: RegisterSize,
+    size: Option<usize>,
     status: bool,
 }
 
-#[derive(Clone, Copy)]
-enum LineStep {
-    Next(Seen),
-    Refused(u8),
-}
-
 // An R line after lines that said `seen`.
-fn register_step(format: Format, seen: Seen, l: &[u8]) -> LineStep
+fn register_step(format: Format, seen: Seen, l: &[u8]) -> Result<Seen, Refusal>
     ensures { result ≡ register_step seen (size_of format l.now) }
 {
-    let size = seen.size;
-    let RegisterSize::Unknown = size else {
-        return LineStep::Refused(BAD_LINE);
+    if seen.size.is_some() {
+        return Err(Refusal::BadLine);
+    }
+    let Some(n) = size_in(format, l) else {
+        return Err(Refusal::BadLine);
     };
-    let Digits::Value(n) = size_in(format, l) else {
-        return LineStep::Refused(BAD_LINE);
-    };
-    LineStep::Next(Seen {
-        size: RegisterSize::Bytes(n),
-        status: seen.status,
+    Ok(Seen {
+        size: Some(n),
+        ..seen
     })
 }
 
 // The line `l` after lines that said `seen`.
-fn line_step(format: Format, seen: Seen, l: &[u8]) -> LineStep
+fn line_step(format: Format, seen: Seen, l: &[u8]) -> Result<Seen, Refusal>
     ensures { result ≡ line_step format seen l.now }
 {
     if is_register(l) {
@@ -233,72 +211,67 @@ fn line_step(format: Format, seen: Seen, l: &[u8]) -> LineStep
     }
     if is_status(l) {
         if seen.status {
-            return LineStep::Refused(BAD_LINE);
+            return Err(Refusal::BadLine);
         }
-        let size = seen.size;
-        return LineStep::Next(Seen { size, status: true });
+        return Ok(Seen {
+            status: true,
+            ..seen
+        });
     }
-    LineStep::Next(seen)
+    Ok(seen)
 }
 
 // Where the line that starts at `from` ends: at its 0A, or where `s` does.
 pub fn line_end(s: &[u8], from: usize) -> usize
     ensures { result ≡ from + length (line_of (drop from s.now)) }
 {
-    let mut at = from;
-    while at < s.len() {
-        if s[at] == 10 {
+    for at in from..s.len() {
+        if s[at] == b'\n' {
             return at;
         }
-        at += 1;
     }
-    at
+    from.max(s.len())
 }
 
 // Where the description ends, after the empty line's 0A, and the register size that it states.
-#[derive(Clone, Copy)]
-pub enum Opening {
-    Found { end: usize, size: RegisterSize },
-    Refused(u8),
+#[derive(Clone, Copy, Debug, PartialEq, Eq)]
+pub struct Opening {
+    pub end: usize,
+    pub size: Option<usize>,
 }
 
 // The description's lines from `from` on, up to the closing empty one.
-fn lines_from(format: Format, s: &[u8], from: usize) -> Opening
+fn lines_from(format: Format, s: &[u8], from: usize) -> Result<Opening, Refusal>
     ensures { opening_meaning result ≡ lines_seen format (length s.now) (description format [] [] (drop from s.now)) }
 {
     let mut start = from;
     let mut seen = Seen {
-        size: RegisterSize::Unknown,
+        size: None,
         status: false,
     };
     while start < s.len() {
         let end = line_end(s, start);
         if s.len() <= end {
-            return Opening::Refused(NO_EMPTY_LINE);
+            return Err(Refusal::NoEmptyLine);
         }
         if end <= start {
-            let size = seen.size;
-            return Opening::Found { end: end + 1, size };
+            return Ok(Opening {
+                end: end + 1,
+                size: seen.size,
+            });
         }
-        match line_step(format, seen, &s[start..end]) {
-            LineStep::Refused(n) => {
-                return Opening::Refused(n);
-            }
-            LineStep::Next(after) => {
-                seen = after;
-                start = end + 1;
-            }
-        }
+        seen = line_step(format, seen, &s[start..end])?;
+        start = end + 1;
     }
-    Opening::Refused(NO_EMPTY_LINE)
+    Err(Refusal::NoEmptyLine)
 }
 
 // The opening of a file: its head and its description.
-pub fn opening_of(format: Format, s: &[u8]) -> Opening
+pub fn opening_of(format: Format, s: &[u8]) -> Result<Opening, Refusal>
     ensures { opening_meaning result ≡ opening_seen format s.now }
 {
     if !fields::begins(s, b"\x7fTRACE0\n") {
-        return Opening::Refused(BAD_HEAD);
+        return Err(Refusal::BadHead);
     }
     lines_from(format, s, 8)
 }

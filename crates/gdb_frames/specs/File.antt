@@ -20,8 +20,8 @@ use Rattle.gdb_format.specs.declared.Format.{Format}
 use Rattle.fields.specs.Given.{bytes-given, at_case}
 use Rattle.gdb_read.specs.Steps.{frames_end, length-encode, Summary, summary_of, read_seen, opened_meaning, reading_meaning}
 use Rattle.gdb_read.specs.declared.Opened.{Opened}
-use Rattle.gdb_read.specs.declared.Reading.{Reading}
-use Rattle.gdb_read.specs.declared.Reading.TheVariants as reading
+use Rattle.std.specs.Prelude.{Result, Ok}
+use Rattle.refusals.specs.declared.Refusal.{Refusal}
 use Rattle.gdb_frames.specs.Questions.{asked, frame_count, end_mark}
 
 -- ---- a file and its trace
@@ -130,7 +130,7 @@ pub record WasRead (s : Settings) (b : List ℕ) (m : Summary) : Type 0 where
   pub summed : accepted m ≡ read_seen (read s b)
 
 -- as a place of a proof hands it over: the lent bytes, the case that the reading's answer is, and what its contract says
-pub read-given : {s : Settings} {b : List ℕ} {o : Opened} {r : Reading} → ((i : ℕ) → Fits w8 (get_or b i 0)) → r ≡ reading.Accepted o
+pub read-given : {s : Settings} {b : List ℕ} {o : Opened} {r : Result Opened Refusal} → ((i : ℕ) → Fits w8 (get_or b i 0)) → r ≡ Ok o
     → reading_meaning r ≡ read_seen (read s b) → WasRead s b (opened_meaning o)
 read-given {b = b} h e k = record { bytes = bytes-given b h; summed = at_case reading_meaning e k }
 

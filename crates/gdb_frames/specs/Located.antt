@@ -19,8 +19,10 @@ use Rattle.gdb_read.specs.Steps.{Row, head_seen, frame_seen, head_meaning, frame
 use Rattle.gdb_frames.specs.Places.{lines_at, frames_at, part_named}
 use Rattle.gdb_frames.specs.Questions.{asked, frame_row, line_at, line_place}
 use Rattle.gdb_frames.specs.Nth.{nth_head, shown_nth, nth-placed, found_by, nth-found, nth_line, IsLine, nth-line}
-use Rattle.gdb_frames.specs.declared.LocatedAnswer.{LocatedAnswer}
-use Rattle.gdb_frames.specs.declared.LocatedAnswer.TheVariants as located
+use Rattle.std.specs.Prelude.{Result}
+use Rattle.refusals.specs.declared.Refusal.{Refusal}
+use Rattle.fields.specs.Meaning.{answer_by}
+use Rattle.gdb_frames.specs.declared.Located.{Located}
 use Rattle.gdb_frames.specs.File.{File, WasRead, frames-behind, front-file, start-within, lines-behind, told}
 use Rattle.gdb_frames.specs.PlaceLaws.{line-within, line-is}
 
@@ -31,10 +33,9 @@ row_in f t v = (f, (register_size f t.lines, v))
 abbrev pub frame_located : ℕ → Format → Trace → Answer (Format × (Option ℕ × Row))
 frame_located n f t = next (frame_row n f t) (λ v. accepted (row_in f t v))
 
--- what `LocatedAnswer` says
-abbrev pub located_meaning : LocatedAnswer → Answer (Format × (Option ℕ × Row))
-located_meaning (located.Frame l) = accepted (l.format, (size_meaning l.size, head_meaning l.head))
-located_meaning (located.Refused n) = refused n
+-- what `Located` says
+abbrev pub located_meaning : Result Located Refusal → Answer (Format × (Option ℕ × Row))
+located_meaning r = answer_by (λ l. (l.layout.format, (size_meaning l.layout.size, head_meaning l.head))) r
 
 -- ---- frame n
 

@@ -1,10 +1,14 @@
 -- What the walk's steps and the whole reading answer, in the paper's terms.
 -- Assumes nothing.
 use Rattle.std.specs.Prelude.{Bool, ◌≡◌, ℕ, ◌+◌, List, ◌++◌, length}
-use Rattle.std.proofs.Math.Option.{Option, none, some}
+use Rattle.std.specs.Prelude.{Result}
+use Rattle.std.specs.Prelude.{Option as Optional}
+use Rattle.std.proofs.Math.Option.{Option}
 use Rattle.std.proofs.Common.{arith, length-append}
 use Rattle.fields.specs.Lists.{concat_map}
-use Rattle.fields.specs.Answer.{Answer, accepted, refused, next}
+use Rattle.refusals.specs.declared.Refusal.{Refusal}
+use Rattle.fields.specs.Answer.{Answer, accepted, next}
+use Rattle.fields.specs.Meaning.{answer_by, held_by}
 use Rattle.gdb_format.specs.Trace.{Frame, Trace, opening, head_in, put_frame, put_mark, encode}
 use Rattle.gdb_format.specs.Lines.{register_size}
 use Rattle.gdb_format.specs.Decode.{frames}
@@ -12,12 +16,8 @@ use Rattle.gdb_format.specs.Opening.{size_meaning}
 use Rattle.gdb_format.specs.declared.Format.{Format}
 use Rattle.gdb_read.specs.declared.FrameHead.{FrameHead}
 use Rattle.gdb_read.specs.declared.FrameStep.{FrameStep}
-use Rattle.gdb_read.specs.declared.FrameStep.TheVariants as framestep
 use Rattle.gdb_read.specs.declared.FrameCount.{FrameCount}
-use Rattle.gdb_read.specs.declared.FrameCount.TheVariants as count
 use Rattle.gdb_read.specs.declared.Opened.{Opened}
-use Rattle.gdb_read.specs.declared.Reading.{Reading}
-use Rattle.gdb_read.specs.declared.Reading.TheVariants as reading
 
 -- ---- frames
 
@@ -38,15 +38,12 @@ frame_seen f at r = head_seen at (head_in f r)
 abbrev pub head_meaning : FrameHead → Row
 head_meaning h = record { tracepoint = h.tracepoint; place = h.place; size = h.size }
 
-abbrev pub frame_meaning : FrameStep → Answer (Option (Row × ℕ))
-frame_meaning framestep.End = accepted none
-frame_meaning (framestep.Frame h m) = accepted (some (head_meaning h, m))
-frame_meaning (framestep.Refused n) = refused n
+abbrev pub frame_meaning : Result (Optional FrameStep) Refusal → Answer (Option (Row × ℕ))
+frame_meaning r = answer_by (held_by (λ s. (head_meaning s.head, s.next))) r
 
 -- the number of frames, and whether the end mark stands behind them
-abbrev pub frames_meaning : FrameCount → Answer (ℕ × Bool)
-frames_meaning (count.Frames n m) = accepted (n, m)
-frames_meaning (count.Refused n) = refused n
+abbrev pub frames_meaning : Result FrameCount Refusal → Answer (ℕ × Bool)
+frames_meaning r = answer_by (λ c. (c.count, c.marked)) r
 
 abbrev pub frames_counted : Format → Option ℕ → List ℕ → Answer (ℕ × Bool)
 frames_counted f size b = next (frames f size b) (λ q. accepted (length q.0, q.1))
@@ -93,11 +90,10 @@ summary_in f x = next x (λ t. accepted (summary_of f t))
 abbrev pub read_seen : Answer (Format × Trace) → Answer Summary
 read_seen x = next x (λ r. accepted (summary_of r.0 r.1))
 
--- what `Opened` and `Reading` say
+-- what `Opened` says
 abbrev pub opened_meaning : Opened → Summary
 opened_meaning o =
-    record { format = o.format; size = size_meaning o.size; start = o.start; end = o.end; frames = o.frames; marked = o.marked }
+    record { format = o.layout.format; size = size_meaning o.layout.size; start = o.start; end = o.end; frames = o.frames; marked = o.marked }
 
-abbrev pub reading_meaning : Reading → Answer Summary
-reading_meaning (reading.Accepted o) = accepted (opened_meaning o)
-reading_meaning (reading.Refused n) = refused n
+abbrev pub reading_meaning : Result Opened Refusal → Answer Summary
+reading_meaning r = answer_by opened_meaning r

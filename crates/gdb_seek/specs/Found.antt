@@ -1,11 +1,13 @@
 -- Frame n by the parts of the file that show it: the opening, the heads of frames 0 to n, and the blocks of frame n.
 -- Assumes nothing: these are definitions.
-use Rattle.std.specs.Prelude.{◌≡◌, cond, ℕ, suc, ◌+◌, List, [], ◌∷◌, ◌++◌, map, length, take, drop, leb, eqb}
+use Rattle.std.specs.Prelude.{◌≡◌, cond, ℕ, suc, ◌+◌, List, [], ◌∷◌, ◌++◌, map, length, take, drop, leb, eqb, Result}
 use Rattle.std.proofs.Math.Option.{Option}
 use Rattle.refusals.specs.Refusal.{limit, too_long}
+use Rattle.refusals.specs.declared.Refusal.{Refusal}
 use Rattle.fields.specs.Lists.{Each}
 use Rattle.fields.specs.Word.{starts}
 use Rattle.fields.specs.Answer.{Answer, accepted, refused, next}
+use Rattle.fields.specs.Meaning.{answer_by}
 use Rattle.gdb_format.specs.Settings.{settings_of}
 use Rattle.gdb_format.specs.Trace.{head, opening}
 use Rattle.gdb_format.specs.Lines.{may_follow, register_size}
@@ -16,8 +18,7 @@ use Rattle.gdb_read.specs.Steps.{Row}
 use Rattle.gdb_frames.specs.Places.{part}
 use Rattle.gdb_frames.specs.Questions.{data_in}
 use Rattle.gdb_seek.specs.Walk.{Walk, walk_to}
-use Rattle.gdb_seek.specs.declared.FrameAnswer.{FrameAnswer}
-use Rattle.gdb_seek.specs.declared.FrameAnswer.TheVariants.{At, Refused}
+use Rattle.gdb_seek.specs.declared.FoundFrame.{FoundFrame}
 
 -- ---- the question
 
@@ -43,10 +44,9 @@ frame_found s b n = next (settings_of s) (λ f. found_in f b n)
 abbrev pub data_found : Settings → List ℕ → ℕ → Answer (ℕ × ℕ)
 data_found s b n = next (frame_found s b n) (λ r. accepted r.0)
 
--- what `FrameAnswer` says
-abbrev pub frame_answer_meaning : FrameAnswer → Answer ((ℕ × ℕ) × ℕ)
-frame_answer_meaning (At p n k) = accepted ((p, n), k)
-frame_answer_meaning (Refused k) = refused k
+-- what the code's answer says
+abbrev pub found_meaning : Result FoundFrame Refusal → Answer ((ℕ × ℕ) × ℕ)
+found_meaning r = answer_by (λ a. ((a.part.place, a.part.length), a.heads)) r
 
 -- ---- the parts of the file that are read, each by its place and length
 

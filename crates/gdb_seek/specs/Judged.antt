@@ -20,7 +20,7 @@ use Rattle.gdb_read.specs.Steps.{Row, frames_counted}
 use Rattle.gdb_frames.specs.Questions.{data_in}
 use Rattle.gdb_seek.specs.Walk.{walk_to}
 use Rattle.gdb_seek.specs.Found.{judged}
-use Rattle.gdb_seek.specs.Turns.{arrived}
+use Rattle.gdb_seek.specs.Turns.{arrived, reached_within}
 use Rattle.gdb_seek.specs.FoundLaws.{here}
 use Rattle.gdb_seek.specs.Heads.{Passed, walked-past, passed-there, own_data}
 
@@ -67,6 +67,10 @@ module _ (f : Format) (size : Option ℕ) (b : List ℕ) (w : Bytes b) (n at : �
 
   pub six_ahead : 6 ≤ r.place
   six_ahead = omega (arith, head-ahead)
+
+  -- its data lie in the file
+  pub data_within : r.place + r.size ≤ length b
+  data_within = reached_within f b n at r w (here f size b (walk_to f b n at) e).0
 
   -- the file up to where its data end, from its head on
   one-frame : drop (r.place - 6) (take (r.place + r.size) b) ≡ put_data f passed.1

@@ -1,13 +1,15 @@
 -- A turn of the walk over heads, by what stands at its place; and where the head that it reaches lies.
 -- Assumes nothing.
-use Rattle.std.specs.Prelude.{◌≡◌, refl, Bool, false, ℕ, zero, suc, ◌+◌, ◌-◌, ◌≤◌, List, [], ◌∷◌, length, drop}
+use Rattle.std.specs.Prelude.{◌≡◌, refl, Bool, false, ℕ, zero, suc, ◌+◌, ◌-◌, ◌≤◌, List, [], ◌∷◌, length, drop, Result}
 use Rattle.std.proofs.Common.{sym, ap, ◌∙◌, zero-add, arith, length-append, length-drop}
 use Rattle.std.proofs.Math.Option.{Option, none, some}
 use Rattle.refusals.specs.Refusal.{not_found}
+use Rattle.refusals.specs.declared.Refusal.{Refusal}
 use Rattle.fields.specs.Lists.{clash}
 use Rattle.fields.specs.Number.{Bytes, bytes_drop}
 use Rattle.fields.specs.Word.{same_bytes}
 use Rattle.fields.specs.Answer.{Answer, accepted, refused, next, next_inv, accepted-one}
+use Rattle.fields.specs.Meaning.{answer_by}
 use Rattle.fields.specs.Reader.{another, shown_at, step_at}
 use Rattle.fields.specs.At.{Turn, walk_more}
 use Rattle.gdb_format.specs.Trace.{mark, put_data}
@@ -19,16 +21,14 @@ use Rattle.gdb_read.specs.Steps.{Row, head_seen, head_meaning}
 use Rattle.gdb_frames.specs.Nth.{found_by}
 use Rattle.gdb_seek.specs.Walk.{before_end, head_or_end, Walk, goes_on, past, walk_to}
 use Rattle.gdb_seek.specs.declared.Reached.{Reached}
-use Rattle.gdb_seek.specs.declared.Reached.TheVariants.{Head, Refused}
 
 -- what a walk comes to, with the number of heads that it has read
 abbrev pub arrived : Walk → Answer (Row × ℕ)
 arrived w = next w.reached (λ r. accepted (r, length w.visited))
 
--- what `Reached` says
-abbrev pub reached_meaning : Reached → Answer (Row × ℕ)
-reached_meaning (Head h k) = accepted (head_meaning h, k)
-reached_meaning (Refused n) = refused n
+-- what the code's walk answers
+abbrev pub reached_meaning : Result Reached Refusal → Answer (Row × ℕ)
+reached_meaning r = answer_by (λ a. (head_meaning a.head, a.heads)) r
 
 -- ---- what stands at a place
 

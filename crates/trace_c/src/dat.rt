@@ -9,12 +9,12 @@ use dat_flat::{CpuRange, DatSummary};
 pub extern "C" fn tfk_dat_read(file: &[u8]) -> DatSummary
     ensures { result ≡ flat_summary (summed file.now) }
 {
-    dat_flat::flat_summary(tracedat::summary(file))
+    DatSummary::from(tracedat::summary(file))
 }
 
 #[unsafe(no_mangle)]
 pub extern "C" fn tfk_dat_cpu_range(file: &[u8], i: usize) -> CpuRange
     ensures { result ≡ flat_range (cpu_range i file.now) }
 {
-    dat_flat::flat_range(tracedat::cpu_range(file, i))
+    CpuRange::from(tracedat::cpu_range(file, i))
 }

@@ -8,16 +8,15 @@ ghost use Rattle.gdb_flat.specs.Flat.{flat_value, flat_length, flat_pair, select
 
 use gdb_flat::edits::{Length, PairPart, Selection};
 use gdb_flat::questions::Value;
-use gdb_flat::{edits, questions};
 use gdb_format::Settings;
 
 #[unsafe(no_mangle)]
 pub extern "C" fn tfk_opposite(selection: Selection) -> Selection
     ensures { result ≡ flat_selection (against (selection_in selection)) }
 {
-    let given = edits::selection_in(selection);
+    let given = gdb_select::Selection::from(selection);
     let turned = gdb_select::opposite(given);
-    edits::flat_selection(turned)
+    Selection::from(turned)
 }
 
 #[unsafe(no_mangle)]
@@ -29,7 +28,7 @@ pub extern "C" fn tfk_cut(
 ) -> Length
     ensures { FlatLent flat_length (cut_of settings (selection_in selection) file.now) out.old result out.new }
 {
-    edits::flat_length(gdb_cut::cut(settings, file, edits::selection_in(selection), out))
+    Length::from(gdb_cut::cut(settings, file, gdb_select::Selection::from(selection), out))
 }
 
 #[unsafe(no_mangle)]
@@ -41,7 +40,7 @@ pub extern "C" fn tfk_join(
 ) -> Length
     ensures { FlatLent flat_length (join_of settings first.now second.now) out.old result out.new }
 {
-    edits::flat_length(gdb_join::join(settings, first, second, out))
+    Length::from(gdb_join::join(settings, first, second, out))
 }
 
 #[unsafe(no_mangle)]
@@ -53,7 +52,7 @@ pub extern "C" fn tfk_pair_place(
 ) -> PairPart
     ensures { result ≡ flat_pair (pair_place settings first.now second.now n) }
 {
-    edits::flat_pair(gdb_pair::pair_place(settings, first, second, n))
+    PairPart::from(gdb_pair::pair_place(settings, first, second, n))
 }
 
 #[unsafe(no_mangle)]
@@ -66,5 +65,5 @@ pub extern "C" fn tfk_pair_variable(
 ) -> Value
     ensures { result ≡ flat_value (pair_variable settings first.now second.now n number) }
 {
-    questions::flat_value(gdb_pair::pair_variable(settings, first, second, n, number))
+    Value::from(gdb_pair::pair_variable(settings, first, second, n, number))
 }

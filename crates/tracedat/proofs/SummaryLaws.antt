@@ -7,12 +7,13 @@ use native.Mathlib.Omega.{arith}
 use mathlib.Core.List.{List, ◌++◌}
 use lib.ListN.{length, drop}
 use borrow.Author.Tests.{le-leb, lt-leb}
+use Rattle.std.specs.Prelude.{Result, Ok, Err}
+use Rattle.refusals.specs.Number.{number}
 use Rattle.refusals.specs.Refusal.{limit, too_long, not_found, bad_range, ranges_overlap}
 use Rattle.fields.specs.Lists.{clash}
 use Rattle.fields.specs.Number.{Bytes, word_at}
 use Rattle.fields.specs.Answer.{Answer, accepted, refused, accepted-one, next, next_inv, refused_inv}
 use Rattle.fields.specs.Reader.{seen_at}
-use Rattle.fields.specs.Given.{at_case}
 use Rattle.fields.specs.Got.{Got, not_read, got}
 use Rattle.fields.specs.Element.{nth}
 use Rattle.fields.specs.declared.Order.{Order}
@@ -26,17 +27,12 @@ use Rattle.dat_format.specs.Exactness.{exact_header, exactness}
 use Rattle.dat_read.specs.Summary.{kind_of, summary, summary_seen}
 use Rattle.dat_read.specs.declared.summary.EndingKind.TheVariants.{Latency, Flyrecord}
 use Rattle.dat_read.specs.declared.summary.Summary.{Summary}
-use Rattle.dat_walk.specs.Steps.{walk_meaning}
 use Rattle.dat_walk.specs.Parts.{entries_are}
-use Rattle.dat_walk.specs.declared.Walked as code
-use Rattle.dat_walk.specs.declared.Walked.TheVariants as walked
-use Rattle.dat_ranges.specs.Ranges.{range_of, possible, judgement, judged, judged-there}
+use Rattle.dat_ranges.specs.Ranges.{range_of, possible, judgement, judged, judged-there, refusal_of}
 use Rattle.dat_ranges.specs.declared.Test.{Test}
-use Rattle.dat_ranges.specs.declared.Judgement.{Judgement}
-use Rattle.dat_ranges.specs.declared.Judgement.TheVariants.{Sound, Misplaced, Overlap}
-use Rattle.tracedat.specs.Questions.{summed, summary_meaning, cpu_range}
-use Rattle.tracedat.specs.declared.SummaryAnswer.{SummaryAnswer}
-use Rattle.tracedat.specs.declared.SummaryAnswer.TheVariants as answer
+use Rattle.dat_ranges.specs.declared.Fault.{Fault}
+use Rattle.dat_ranges.specs.declared.Fault.TheVariants.{Misplaced, Overlap}
+use Rattle.tracedat.specs.Questions.{summed, cpu_range}
 
 kind_latency : (e : Ending) → kind_of e ≡ Latency → e ≡ latency
 kind_latency latency k = refl
@@ -94,19 +90,22 @@ unfolding summed decode
 too_long_lem s h = rw (lt-leb (length s) limit h)
 
 -- the answer that a judgement stands for
-answer_of : Judgement → Header → Answer Header
-answer_of Sound h = accepted h
-answer_of Misplaced h = refused bad_range
-answer_of Overlap h = refused ranges_overlap
+abbrev Judgement : Type 0
+Judgement = Result (Unit {0}) Fault
+
+answered : Judgement → Header → Answer Header
+answered (Ok u) h = accepted h
+answered (Err f) h = refused (number (refusal_of f))
 
 checked-is : (total : ℕ) (h : Header)
-    → checked total h ≡ answer_of (judgement (in_file h.opening.page (length (encode h)) total) (ranges h.tail.ending)) h
-unfolding checked answer_of
+    → checked total h ≡ answered (judgement (in_file h.opening.page (length (encode h)) total) (ranges h.tail.ending)) h
+unfolding checked answered
 checked-is total h =
     let rs = ranges h.tail.ending in
     by (all (in_file h.opening.page (length (encode h)) total) rs) (all_apart rs)
   where
-    by : (p q : Bool) → cond p (cond q (accepted h) (refused ranges_overlap)) (refused bad_range) ≡ answer_of (cond p (cond q Sound Overlap) Misplaced) h
+    by : (p q : Bool) → cond p (cond q (accepted h) (refused ranges_overlap)) (refused bad_range)
+        ≡ answered (cond p (cond q (Ok (tt {0})) (Err Overlap)) (Err Misplaced)) h
     by true true = refl
     by true false = refl
     by false q = refl
@@ -116,10 +115,9 @@ unfolding decode
 decode-short s short = rw (le-leb (length s) limit short)
 
 -- a walk that was refused
-pub bad_walk : (s : List ℕ) → length s ≤ limit → {w : code.Walked} {n : ℕ}
-    → w ≡ walked.Refused n → walk_meaning w ≡ seen_at (summary_seen (length s)) header s 0 → refused n ≡ summed s
+pub bad_walk : (s : List ℕ) → length s ≤ limit → {n : ℕ} → refused n ≡ seen_at (summary_seen (length s)) header s 0 → refused n ≡ summed s
 unfolding summed
-bad_walk s short {w} {n} e h = rw (decode-short s short, not_read (summary_seen (length s)) header s 0 n (at_case walk_meaning e h))
+bad_walk s short {n} e = rw (decode-short s short, not_read (summary_seen (length s)) header s 0 n e)
 
 -- what the walk found in a file
 pub record HeaderFound (s : List ℕ) (sm : Summary) (end : ℕ) : Type 0 where
@@ -127,10 +125,10 @@ pub record HeaderFound (s : List ℕ) (sm : Summary) (end : ℕ) : Type 0 where
   pub got : Got header HeaderFits encode s 0 end
   pub sums : summary (length s) got.value ≡ sm
 
-pub header-found : {s : List ℕ} {sm : Summary} {end : ℕ} → Bytes s → length s ≤ limit → {w : code.Walked}
-    → w ≡ walked.Header sm end → walk_meaning w ≡ seen_at (summary_seen (length s)) header s 0 → HeaderFound s sm end
-header-found {s} {sm} {end} b short e h =
-    let g = got exact_header s b 0 (omega arith) (summary_seen (length s)) sm end (at_case walk_meaning e h) in
+pub header-found : {s : List ℕ} {sm : Summary} {end : ℕ} → Bytes s → length s ≤ limit → accepted (sm, end) ≡ seen_at (summary_seen (length s)) header s 0
+    → HeaderFound s sm end
+header-found {s} {sm} {end} b short e =
+    let g = got exact_header s b 0 (omega arith) (summary_seen (length s)) sm end e in
     record { short = short; got = g.0; sums = g.1 }
 
 module _ {s : List ℕ} {sm : Summary} {end : ℕ} (w : HeaderFound s sm end) where
@@ -150,16 +148,16 @@ module _ {s : List ℕ} {sm : Summary} {end : ℕ} (w : HeaderFound s sm end) wh
   abbrev summed_as : Answer Header → Answer Summary
   summed_as x = next x (λ h. accepted (summary (length s) h))
 
-  answers : (v : Judgement) → v ≡ checks → summed_as (answer_of v h) ≡ summed s
+  answers : (v : Judgement) → v ≡ checks → summed_as (answered v h) ≡ summed s
   unfolding summed
   answers v e =
-      let d : decode s ≡ answer_of checks h =
+      let d : decode s ≡ answered checks h =
       decode-short s w.short ∙ ap (λ x. next x (λ r. checked (length s) r.0)) w.got.reads ∙ checked-is (length s) h in
-      ap (λ v. summed_as (answer_of v h)) e ∙ ap summed_as (sym d)
+      ap (λ v. summed_as (answered v h)) e ∙ ap summed_as (sym d)
 
-  sound : Sound ≡ checks → accepted sm ≡ summed s
-  unfolding answer_of
-  sound e = ap accepted (sym w.sums) ∙ answers Sound e
+  sound : Ok tt ≡ checks → accepted sm ≡ summed s
+  unfolding answered
+  sound e = ap accepted (sym w.sums) ∙ answers (Ok tt) e
 
   pub accept_text : sm.ending ≡ Latency → accepted sm ≡ summed s
   accept_text k = sound (sym (ap (λ e. judgement (in_file h.opening.page (length (encode h)) (length s)) (ranges e)) (is-text summarised k)))
@@ -181,33 +179,28 @@ module _ {s : List ℕ} {sm : Summary} {end : ℕ} (w : HeaderFound s sm end) wh
         ∙ ap (judgement (in_file sm.flags.page end (length s))) (stored_are summarised k).1
         ∙ ap₂ (λ p n. judgement (in_file p n (length s)) (ranges h.tail.ending)) (sym (page_same summarised)) (sym end_is)
 
-    module _ {v : Judgement} where
-      pub bad-range : v ≡ Misplaced → Judged v → refused bad_range ≡ summed s
-      unfolding answer_of
-      bad-range f e = answers Misplaced (sym f ∙ checks-is e)
+    pub bad_ranges : {f : Fault} → Judged (Err f) → refused (number (refusal_of f)) ≡ summed s
+    unfolding answered
+    bad_ranges {f} e = answers (Err f) (checks-is e)
 
-      pub overlap : v ≡ Overlap → Judged v → refused ranges_overlap ≡ summed s
-      unfolding answer_of
-      overlap f e = answers Overlap (sym f ∙ checks-is e)
-
-      pub accept_entries : v ≡ Sound → Judged v → accepted sm ≡ summed s
-      accept_entries f e = sound (sym f ∙ checks-is e)
+    pub accept_entries : Judged (Ok tt) → accepted sm ≡ summed s
+    accept_entries e = sound (checks-is e)
 
 -- ---- a CPU's range
 
-pub no_header : (s : List ℕ) (i : ℕ) {r : SummaryAnswer} {n : ℕ} → r ≡ answer.Refused n → summary_meaning r ≡ summed s → refused n ≡ cpu_range i s
+pub no_header : (s : List ℕ) (i : ℕ) {n : ℕ} → refused n ≡ summed s → refused n ≡ cpu_range i s
 unfolding summed cpu_range
-no_header s i {r} {n} e h = rw (refused_inv n (decode s) (λ h. summary (length s) h) (at_case summary_meaning e h))
+no_header s i {n} e = rw (refused_inv n (decode s) (λ h. summary (length s) h) e)
 
 -- a file whose summary is sm
 pub record Accepts (s : List ℕ) (sm : Summary) : Type 0 where
   pub summarised : Summarised s sm
   pub decodes : decode s ≡ accepted summarised.whole
 
-pub accepts : {s : List ℕ} {sm : Summary} → Bytes s → {r : SummaryAnswer} → r ≡ answer.Accepted sm → summary_meaning r ≡ summed s → Accepts s sm
+pub accepts : {s : List ℕ} {sm : Summary} → Bytes s → accepted sm ≡ summed s → Accepts s sm
 unfolding summed
-accepts {s} {sm} b e h =
-    let q = next_inv (decode s) (λ h. accepted (summary (length s) h)) (sym (at_case summary_meaning e h)) in
+accepts {s} {sm} b e =
+    let q = next_inv (decode s) (λ h. accepted (summary (length s) h)) (sym e) in
     let o = (exactness s q.0 b).0 q.1 in
     record {
       summarised = record { whole = q.0; rest = o.1.0; laid = o.1.1; fits = o.0.fits; sums = accepted-one q.2 };

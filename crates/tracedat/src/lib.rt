@@ -2,83 +2,56 @@
 #![tactic(auto)]
 
 ghost use Rattle.std.specs.Prelude.{◌≡◌};
-ghost use Rattle.tracedat.specs.Questions.{summary_meaning, summed, range_meaning, cpu_range};
+ghost use Rattle.fields.specs.Meaning.{answer_of, answer_by};
+ghost use Rattle.dat_ranges.specs.Ranges.{stored};
+ghost use Rattle.tracedat.specs.Questions.{summed, cpu_range};
 
-use dat_ranges::{Judgement, Test};
+use dat_ranges::{CpuRange, Test};
 use dat_read::summary::{EndingKind, Summary};
-use dat_walk::Walked;
-use refusals::{BAD_RANGE, LIMIT, NOT_FOUND, RANGES_OVERLAP, TOO_LONG};
-
-#[derive(Clone, Copy)]
-pub enum SummaryAnswer {
-    Accepted(Summary),
-    Refused(u8),
-}
+use refusals::{LIMIT, Refusal};
 
 // The whole file's header, its CPU ranges with it.
-pub fn summary(file: &[u8]) -> SummaryAnswer
-    ensures { summary_meaning result ≡ summed file.now }
+pub fn summary(file: &[u8]) -> Result<Summary, Refusal>
+    ensures { answer_of result ≡ summed file.now }
 {
     if LIMIT < file.len() {
-        return SummaryAnswer::Refused(TOO_LONG);
+        return Err(Refusal::TooLong);
     }
-    match dat_walk::walk(file) {
-        Walked::Refused(n) => SummaryAnswer::Refused(n),
-        Walked::Header { summary, end } => {
-            let ending = summary.ending;
-            match ending {
-                EndingKind::Latency => SummaryAnswer::Accepted(summary),
-                EndingKind::Flyrecord => {
-                    let flags = summary.flags;
-                    let order = flags.order;
-                    let n = summary.texts.cpus;
-                    let place = summary.body.place;
-                    let test = Test {
-                        page: flags.page,
-                        end: end as u64,
-                        total: file.len() as u64,
-                    };
-                    match dat_ranges::judge(file, order, test, n, place) {
-                        Judgement::Misplaced => SummaryAnswer::Refused(BAD_RANGE),
-                        Judgement::Overlap => SummaryAnswer::Refused(RANGES_OVERLAP),
-                        Judgement::Sound => SummaryAnswer::Accepted(summary),
-                    }
-                }
-            }
+    let (summary, end) = dat_walk::walk(file)?;
+    match summary.ending {
+        EndingKind::Latency => Ok(summary),
+        EndingKind::Flyrecord => {
+            let test = Test {
+                page: summary.flags.page,
+                end: end as u64,
+                total: file.len() as u64,
+            };
+            dat_ranges::judge(
+                file,
+                summary.flags.order,
+                test,
+                summary.texts.cpus,
+                summary.body.place,
+            )?;
+            Ok(summary)
         }
     }
-}
-
-#[derive(Clone, Copy)]
-pub enum RangeAnswer {
-    Range { offset: u64, size: u64 },
-    Refused(u8),
 }
 
 // CPU i's range, as stored.
-pub fn cpu_range(file: &[u8], i: usize) -> RangeAnswer
-    ensures { range_meaning result ≡ cpu_range i file.now }
+pub fn cpu_range(file: &[u8], i: usize) -> Result<CpuRange, Refusal>
+    ensures { answer_by stored result ≡ cpu_range i file.now }
 {
-    match summary(file) {
-        SummaryAnswer::Refused(n) => RangeAnswer::Refused(n),
-        SummaryAnswer::Accepted(summary) => {
-            let ending = summary.ending;
-            match ending {
-                EndingKind::Latency => RangeAnswer::Refused(NOT_FOUND),
-                EndingKind::Flyrecord => {
-                    if summary.texts.cpus as usize <= i {
-                        return RangeAnswer::Refused(NOT_FOUND);
-                    }
-                    let flags = summary.flags;
-                    let order = flags.order;
-                    let place = summary.body.place;
-                    let at = place + 16 * i;
-                    RangeAnswer::Range {
-                        offset: fields::u64_at(file, order, at),
-                        size: fields::u64_at(file, order, at + 8),
-                    }
-                }
-            }
+    let header = summary(file)?;
+    match header.ending {
+        EndingKind::Flyrecord if i < header.texts.cpus as usize => {
+            let order = header.flags.order;
+            let at = header.body.place + 16 * i;
+            Ok(CpuRange {
+                offset: fields::u64_at(file, order, at),
+                size: fields::u64_at(file, order, at + 8),
+            })
         }
+        _ => Err(Refusal::NotFound),
     }
 }

@@ -1,21 +1,30 @@
 -- At each turn the next entry's units are claimed, or it overlaps one behind it.
-use Rattle.std.proofs.Common.{refl, arith}
+use Rattle.std.proofs.Common.{refl, ◌∙◌}
 use Rattle.dat_ranges.proofs.ApartLaws.{walk_start, next_on, walk_on, walk_stop}
 use Rattle.dat_ranges.proofs.all_apart.Goals as goal
 
-pub loop-left-init : goal.loop-left-init
-loop-left-init c = walk_start refl
+pub loop-entry-init : goal.loop-entry-init
+loop-entry-init c =
+    let e = c.rchunks_exact-entry-items.ensures in
+    rw c.into_iter-entry-iterator.ensures.into_iter_gives (e.size, walk_start _ _ refl c.requires.whole e.parts e.remainder_len)
 
 pub claim_range-requires : goal.claim_range-requires
 claim_range-requires c =
-    let w = c.loop-left.invariant in (w.marked.words, next_on w c.requires.each (omega arith) c.entry_at-entry.ensures)
+    let i = c.loop-entry.invariant in
+    let x = c.in-Some.ensures.steps in
+    (i.1.marked.words, next_on i.1 _ _ x.2.0 (x.2.1 ∙ i.0) c.range_in.ensures c.requires.each)
 
 pub returns-then-not-claim_range : goal.returns-then-not-claim_range
 returns-then-not-claim_range c =
-    walk_stop c.loop-left.invariant c.requires.each (omega arith) c.entry_at-entry.ensures c.claim_range.result c.claim_range.new.map
+    let i = c.loop-entry.invariant in
+    let x = c.in-Some.ensures.steps in
+    walk_stop i.1 _ _ x.2.0 (x.2.1 ∙ i.0) c.range_in.ensures c.requires.each c.claim_range.result c.claim_range.new.map
     c.if-not-claim_range.true c.claim_range.ensures
 
-pub loop-left-preserved : goal.loop-left-preserved
-loop-left-preserved c =
-    walk_on c.loop-left.invariant c.requires.each (omega arith) c.entry_at-entry.ensures c.claim_range.result
-    c.if-not-claim_range.false c.claim_range.ensures
+pub loop-entry-preserved : goal.loop-entry-preserved
+loop-entry-preserved c =
+    let i = c.loop-entry.invariant in
+    let x = c.in-Some.ensures.steps in (
+      x.0 ∙ i.0,
+      walk_on i.1 _ _ x.2.0 (x.2.1 ∙ i.0) c.range_in.ensures c.requires.each c.claim_range.result c.if-not-claim_range.false c.claim_range.ensures,
+    )

@@ -1,29 +1,29 @@
 -- The block that the walk over the located frame's data leads to.
-use Rattle.std.proofs.Common.{ap, ◌∙◌}
+use Rattle.std.proofs.Common.{ap, ◌∙◌, Ok}
+use Rattle.fields.specs.Given.{at_case, handed_on}
 use Rattle.gdb_format.specs.Opening.{size_meaning}
-use Rattle.gdb_read.specs.Steps.{head_meaning}
+use Rattle.gdb_data.specs.Blocks.{block_step_meaning}
 use Rattle.gdb_blocks.specs.Search.{nth_block}
-use Rattle.gdb_blocks.specs.SearchLaws.{FrameFound, frame-given, block-is}
+use Rattle.gdb_blocks.specs.SearchLaws.{frame-given, block-is}
 use Rattle.gdb_blocks.proofs.block_record.Goals as goal
 
-pub returns-in-Block : goal.returns-in-Block
-returns-in-Block c =
-    let l = c.in-Frame.l in
-    let w : FrameFound c.args.settings c.args.file.now c.args.n l.format (size_meaning l.size) (head_meaning l.head) =
-    frame-given c.type_inv.file c.in-Frame.is c.locate.ensures in
-    block-is w c.args.k (c.in-Block.ensures ∙ ap (λ d. nth_block l.format (size_meaning l.size) d c.args.k l.head.place) c.up_to_data.ensures)
+pub returns-in_err-step : goal.returns-in_err-step
+returns-in_err-step c =
+    let l = c.in_ok-frame.frame in
+    rw (handed_on c.from_residual-in_err-step.ensures.1)
+    (block-is (frame-given l c.type_inv.file c.in_ok-frame.ensures) c.args.k
+    (c.in_err-step.ensures ∙ ap (λ d. nth_block l.layout.format (size_meaning l.layout.size) d c.args.k l.head.place) c.up_to_data-data.ensures))
 
-pub returns-in-End : goal.returns-in-End
-returns-in-End c =
-    let l = c.in-Frame.l in
-    let w : FrameFound c.args.settings c.args.file.now c.args.n l.format (size_meaning l.size) (head_meaning l.head) =
-    frame-given c.type_inv.file c.in-Frame.is c.locate.ensures in
-    block-is w c.args.k (c.in-End.ensures ∙ ap (λ d. nth_block l.format (size_meaning l.size) d c.args.k l.head.place) c.up_to_data.ensures)
+pub returns-in-Some : goal.returns-in-Some
+returns-in-Some c =
+    let l = c.in_ok-frame.frame in
+    block-is (frame-given l c.type_inv.file c.in_ok-frame.ensures) c.args.k
+    (at_case (λ o. block_step_meaning (Ok o)) c.in-Some.is c.in_ok-step.ensures
+    ∙ ap (λ d. nth_block l.layout.format (size_meaning l.layout.size) d c.args.k l.head.place) c.up_to_data-data.ensures)
 
-pub returns-in-Refused-nth_block : goal.returns-in-Refused-nth_block
-returns-in-Refused-nth_block c =
-    let l = c.in-Frame.l in
-    let w : FrameFound c.args.settings c.args.file.now c.args.n l.format (size_meaning l.size) (head_meaning l.head) =
-    frame-given c.type_inv.file c.in-Frame.is c.locate.ensures in
-    block-is w c.args.k
-    (c.in-Refused-nth_block.ensures ∙ ap (λ d. nth_block l.format (size_meaning l.size) d c.args.k l.head.place) c.up_to_data.ensures)
+pub returns-in-None : goal.returns-in-None
+returns-in-None c =
+    let l = c.in_ok-frame.frame in
+    block-is (frame-given l c.type_inv.file c.in_ok-frame.ensures) c.args.k
+    (at_case (λ o. block_step_meaning (Ok o)) c.in-None.is c.in_ok-step.ensures
+    ∙ ap (λ d. nth_block l.layout.format (size_meaning l.layout.size) d c.args.k l.head.place) c.up_to_data-data.ensures)

@@ -5,8 +5,8 @@ use Rattle.gdb_blocks.specs.Search.{memory_in}
 use Rattle.gdb_blocks.specs.SearchLaws.{Searching}
 use Rattle.gdb_blocks.proofs.find_memory.Given as goal
 
-abbrev pub invariant-loop-found : goal.invariant-loop-found
-invariant-loop-found l = Searching l.format (size_meaning l.size) (memory_in l.address) l.d l.from l.at
+abbrev pub invariant-loop-step : goal.invariant-loop-step
+invariant-loop-step l = Searching l.layout.format (size_meaning l.layout.size) (memory_in l.address) l.d l.from l.at
 
-abbrev pub decreases-loop-found : goal.decreases-loop-found
-decreases-loop-found l = length l.d - l.at
+abbrev pub decreases-loop-step : goal.decreases-loop-step
+decreases-loop-step l = length l.d - l.at

@@ -5,8 +5,8 @@ use Rattle.gdb_blocks.specs.Search.{registers_in}
 use Rattle.gdb_blocks.specs.SearchLaws.{Searching}
 use Rattle.gdb_blocks.proofs.find_registers.Given as goal
 
-abbrev pub invariant-loop-next : goal.invariant-loop-next
-invariant-loop-next l = Searching l.format (size_meaning l.size) registers_in l.d l.from l.at
+abbrev pub invariant-loop-step : goal.invariant-loop-step
+invariant-loop-step l = Searching l.layout.format (size_meaning l.layout.size) registers_in l.d l.from l.at
 
-abbrev pub decreases-loop-next : goal.decreases-loop-next
-decreases-loop-next l = length l.d - l.at
+abbrev pub decreases-loop-step : goal.decreases-loop-step
+decreases-loop-step l = length l.d - l.at

@@ -4,9 +4,9 @@ use Rattle.gdb_format.specs.Opening.{size_meaning}
 use Rattle.gdb_data.specs.Blocks.{blocks_fill}
 use Rattle.gdb_data.proofs.blocks_from.Given as goal
 
-abbrev pub invariant-loop-n : goal.invariant-loop-n
-invariant-loop-n l =
-    blocks_fill l.format (size_meaning l.size) l.seen (drop l.at l.d) ≡ blocks_fill l.format (size_meaning l.size) false (drop l.from l.d)
+abbrev pub invariant-loop-place : goal.invariant-loop-place
+invariant-loop-place l =
+    blocks_fill l.layout.format (size_meaning l.layout.size) l.seen (drop l.at l.d) ≡ blocks_fill l.layout.format (size_meaning l.layout.size) false (drop l.from l.d)
 
-abbrev pub decreases-loop-n : goal.decreases-loop-n
-decreases-loop-n l = length l.d - l.at
+abbrev pub decreases-loop-place : goal.decreases-loop-place
+decreases-loop-place l = length l.d - l.at

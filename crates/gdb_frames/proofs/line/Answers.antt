@@ -8,9 +8,9 @@ use Rattle.gdb_frames.specs.PlaceLaws.{handed, line-in_file}
 use Rattle.gdb_frames.specs.Located.{line-place_of}
 use Rattle.gdb_frames.proofs.line.Goals as goal
 
-pub returns-in-Line : goal.returns-in-Line
-returns-in-Line c =
-    handed c.args.file.now c.part_of.result.now (asked c.args.settings c.args.file.now (line_place c.args.j))
+pub returns-in-Ok : goal.returns-in-Ok
+returns-in-Ok c =
+    handed c.args.file.now c.bytes.result.now (asked c.args.settings c.args.file.now (line_place c.args.j))
     (line-in_file c.args.settings c.args.file.now c.args.j (bytes-given c.args.file.now c.type_inv.file))
-    (c.part_of.ensures ∙ ap (λ x. part_named c.args.file.now (next x (λ r. accepted r.1))) c.in-Line.ensures
+    (c.bytes.ensures ∙ ap (λ x. part_named c.args.file.now (next x (λ r. accepted r.1))) c.in-Ok.ensures
     ∙ ap (part_named c.args.file.now) (line-place_of c.args.settings c.args.file.now c.args.j))

@@ -1,16 +1,15 @@
 -- The part that the place names is handed back.
-use Rattle.std.proofs.Common.{ap, ◌∙◌}
+use Rattle.std.proofs.Common.{rules, ap, ◌∙◌}
 use Rattle.fields.specs.Given.{bytes-given}
-use Rattle.fields.specs.Answer.{accepted, next}
 use Rattle.gdb_frames.specs.Places.{part_named}
 use Rattle.gdb_frames.specs.PlaceLaws.{handed}
 use Rattle.gdb_seek.specs.Found.{data_found}
 use Rattle.gdb_seek.specs.FoundLaws.{found-in-file}
 use Rattle.gdb_seek.proofs.frame_data.Goals as goal
 
-pub returns-in-At : goal.returns-in-At
-returns-in-At c =
+pub returns : goal.returns
+returns c =
     let a = c.args in
     let b = a.file.now in
     handed b c.part_of.result.now (data_found a.settings b a.n) (found-in-file a.settings b a.n (bytes-given b c.type_inv.file))
-    (c.part_of.ensures ∙ ap (λ x. part_named b (next x (λ r. accepted r.0))) c.in-At.ensures)
+    (c.part_of.ensures ∙ ap (part_named b) (search rules))
