@@ -1,19 +1,14 @@
 -- What a step read, or why it stopped; a fixed string, and data behind its size.
 -- Assumes nothing.
-use Rattle.std.specs.Prelude.{◌≡◌, true, ℕ, ◌+◌, ◌-◌, ◌<◌, ◌≤◌, List, [], length, take, drop, Result}
+use Rattle.std.specs.Prelude.{◌≡◌, true, ℕ, ◌+◌, ◌-◌, ◌<◌, ◌≤◌, List, [], length, take, drop}
 use Rattle.std.proofs.Common.{sym, ap, ◌∙◌, le_refl, arith, lt_of_not-le, drop_of_length-le}
 use Rattle.std.proofs.Math.Decide.{dec_le}
 use Rattle.std.proofs.Math.Logic.{by_cases}
 use Rattle.std.proofs.lemmas.Bool.{lt-leb}
-use Rattle.std.proofs.lemmas.Result.{err_from_is_err_and}
-use Rattle.std.specs.Result.{IsErrAnd}
-use Rattle.refusals.specs.declared.Refusal.{Refusal}
-use Rattle.refusals.specs.Number.{number}
 use Rattle.fields.specs.Lists.{concat_map}
 use Rattle.fields.specs.Number.{Bytes, field-before, word_at, word_in_lem}
 use Rattle.fields.specs.Word.{starts}
-use Rattle.fields.specs.Answer.{Answer, accepted, refused, accepted_inj, never}
-use Rattle.fields.specs.Meaning.{answer_by}
+use Rattle.fields.specs.Answer.{accepted, refused, accepted_inj, never}
 use Rattle.fields.specs.Reader.{Reader, bytes, num, seen_at, pass_at}
 use Rattle.fields.specs.Exact.{Exact}
 use Rattle.fields.specs.At.{bytes-short, bytes-at, place_of}
@@ -32,11 +27,6 @@ stopped p s at {n} e = not_read (λ i a. tt) p s at n e
 pub gone_on : {A : Type 0} {p : Reader A} {F : A → Type 0} {put : A → List ℕ} {s : List ℕ} {at m : ℕ}
     → Exact p F put → Bytes s → at ≤ length s → accepted (tt, m) ≡ pass_at p s at → Got p F put s at m
 gone_on {s = s} {at = at} {m = m} x b h e = passed x s b at h m e
-
--- a refusal that `?` hands on
-pub handed_on : {A B : Type 0} (view : A → B) (r : Result A Refusal) (e : Refusal) {x : Answer B} → IsErrAnd r (λ i. i ≡ e) → refused (number e) ≡ x
-    → answer_by view r ≡ x
-handed_on view r e h k = let p = err_from_is_err_and r h in rw (p.1, p.2) k
 
 -- behind the file's end stands nothing
 pub nothing_there : {A C : Type 0} (view : ℕ → A → C) (p : Reader A) (s : List ℕ) (at k : ℕ) → length s ≤ at → p [] ≡ refused k

@@ -1,12 +1,11 @@
 -- The first word tells whether options stand before the ending.
-use Rattle.fields.specs.Given.{bytes-given}
-use Rattle.dat_read.specs.Read.{handed_on}
+use Rattle.fields.specs.Given.{bytes-given, handed_on}
 use Rattle.dat_tail.proofs.TailLaws.{bad_first, has_options, ending_only}
 use Rattle.dat_tail.proofs.tail_at.Goals as goal
 
 pub returns-in_err-word : goal.returns-in_err-word
 returns-in_err-word c =
-    let a = c.args in handed_on _ _ _ c.from_residual.ensures.1 (bad_first a.order a.cpus a.s.now a.at c.in_err-word.ensures)
+    let a = c.args in rw (handed_on c.from_residual.ensures.1) (bad_first a.order a.cpus a.s.now a.at c.in_err-word.ensures)
 
 pub returns-in-Options : goal.returns-in-Options
 returns-in-Options c =
