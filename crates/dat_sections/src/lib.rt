@@ -48,12 +48,8 @@ fn counted_at<F: Fn(usize) -> Result<usize, Refusal>>(
 fn formats_at(s: &[u8], order: Order, at: usize) -> Result<usize, Refusal>
     ensures { step_meaning result ≡ pass_at (counted order (sized order 8)) s.now at }
 {
-    counted_at(
-        s,
-        order,
-        at,
-        |at| pieces::sized_at(s, order, Width::Eight, at),
-    )
+    let format_at = |at| pieces::sized_at(s, order, Width::Eight, at);
+    counted_at(s, order, at, format_at)
 }
 
 // A name at `at`, and its NUL.
