@@ -1,7 +1,8 @@
 // The pieces that a header is made of: fixed strings and data behind their size.
-ghost use Rattle.std.specs.Prelude.{◌≡◌, ◌≤◌, length};
+ghost use Rattle.std.specs.Prelude.{◌≡◌};
+ghost use Rattle.refusals.specs.Refusal.{field_past_file};
 ghost use Rattle.fields.specs.Number.{word_at};
-ghost use Rattle.fields.specs.Reader.{pass_at};
+ghost use Rattle.fields.specs.Reader.{bytes, pass_at};
 ghost use Rattle.dat_format.specs.Pieces.{fixed, sized};
 ghost use Rattle.dat_read.specs.Steps.{step_meaning, width_meaning};
 
@@ -10,27 +11,27 @@ use refusals::Refusal;
 
 // Each step here answers the place after what it read.
 
-// A fixed string at a place in the file.
-#[tactic(auto, using(crate::proofs::PieceLaws::fixed_begins, crate::proofs::PieceLaws::fixed_other))]
-fn fixed_in<'a>(s: &'a [u8], word: &'a [u8], at: usize) -> Result<usize, Refusal>
-    requires { at ≤ length s.now }
-    ensures { step_meaning result ≡ pass_at (fixed word.now) s.now at }
+// n bytes at `at`; behind the file's end stands what stands at its end.
+pub fn bytes_at(s: &[u8], at: usize, n: usize) -> Result<usize, Refusal>
+    ensures { step_meaning result ≡ pass_at (bytes n field_past_file) s.now at }
 {
-    let n = word.len();
+    let at = at.min(s.len());
     if s.len() - at < n {
         return Err(Refusal::FieldPastFile);
-    }
-    if !fields::begins(&s[at..], word) {
-        return Err(Refusal::BadConstant);
     }
     Ok(at + n)
 }
 
-// A fixed string at `at`; behind the file's end stands what stands at its end.
+// A fixed string at `at`.
+#[tactic(auto, using(crate::proofs::PieceLaws::fixed_begins, crate::proofs::PieceLaws::fixed_other))]
 pub fn fixed_at<'a>(s: &'a [u8], word: &'a [u8], at: usize) -> Result<usize, Refusal>
     ensures { step_meaning result ≡ pass_at (fixed word.now) s.now at }
 {
-    fixed_in(s, word, at.min(s.len()))
+    let end = bytes_at(s, at, word.len())?;
+    if !fields::begins(&s[end - word.len()..end], word) {
+        return Err(Refusal::BadConstant);
+    }
+    Ok(end)
 }
 
 // How many bytes a size field has.
@@ -61,14 +62,6 @@ fn size_at(s: &[u8], order: Order, width: Width, at: usize) -> u64
 pub fn sized_at(s: &[u8], order: Order, width: Width, at: usize) -> Result<usize, Refusal>
     ensures { step_meaning result ≡ pass_at (sized order (width_meaning width)) s.now at }
 {
-    let w = width.bytes();
-    if s.len() < at || s.len() - at < w {
-        return Err(Refusal::FieldPastFile);
-    }
-    let n = size_at(s, order, width, at) as usize;
-    let body = at + w;
-    if s.len() - body < n {
-        return Err(Refusal::FieldPastFile);
-    }
-    Ok(body + n)
+    let body = bytes_at(s, at, width.bytes())?;
+    bytes_at(s, body, size_at(s, order, width, at) as usize)
 }

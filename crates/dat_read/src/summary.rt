@@ -70,11 +70,8 @@ pub struct Summary {
 pub fn span(place: usize, next: usize) -> Part
     ensures { result ≡ part_to place next }
 {
-    if next < place {
-        return Part { place, size: 0 };
-    }
     Part {
         place,
-        size: next - place,
+        size: next.saturating_sub(place),
     }
 }

@@ -1,21 +1,18 @@
 -- What steps over a list of elements and over a name answer in each case that the code tells apart.
 -- Assumes nothing.
 use Rattle.std.specs.Prelude.{◌≡◌, ◌≢◌, refl, ℕ, zero, suc, ◌+◌, ◌-◌, ◌<◌, ◌≤◌, List, ◌∷◌, length, drop, get_or}
-use Rattle.std.proofs.Common.{sym, ◌∙◌, arith, ne_eqb, drop_of_length-le, le-leb, lt_of_not-le}
-use Rattle.std.proofs.Math.Decide.{dec_le}
-use Rattle.std.proofs.Math.Logic.{by_cases}
-use Rattle.std.proofs.lemmas.Bool.{lt-leb}
+use Rattle.std.proofs.Common.{sym, ◌∙◌, arith, ne_eqb, drop_of_length-le}
 use Rattle.refusals.specs.Refusal.{field_past_file}
 use Rattle.fields.specs.Lists.{drop-one}
-use Rattle.fields.specs.Number.{Bytes, word_at, word_in_lem}
+use Rattle.fields.specs.Number.{Bytes, word_at}
 use Rattle.fields.specs.Answer.{Answer, accepted, refused}
-use Rattle.fields.specs.Reader.{Reader, pass_at}
+use Rattle.fields.specs.Reader.{Reader, bytes, pass_at}
 use Rattle.fields.specs.Exact.{Exact}
-use Rattle.fields.specs.At.{num-short, num-at, place_of}
+use Rattle.fields.specs.At.{place_of}
 use Rattle.fields.specs.Got.{Got, shown_of}
 use Rattle.fields.specs.declared.Order.{Order}
 use Rattle.dat_format.specs.Pieces.{times, counted, name}
-use Rattle.dat_read.specs.Read.{stopped, gone_on}
+use Rattle.dat_read.specs.Read.{stopped, gone_on, bytes_there, number_read}
 use Rattle.dat_sections.specs.Steps.{repeat, counted_by}
 
 -- ---- a step that is made n times
@@ -30,10 +27,15 @@ module _ (step : ℕ → Answer (Unit {0} × ℕ)) (at n made : ℕ) (l : made <
   pub repeat_turn : {m : ℕ} → accepted (tt, m) ≡ step at → repeat (n - (made + 1)) step m ≡ repeat (n - made) step at
   repeat_turn e = rw (left, ← e)
 
+pub no_count : (o : Order) (step : ℕ → Answer (Unit {0} × ℕ)) (s : List ℕ) (at : ℕ) {k : ℕ} → refused k ≡ pass_at (bytes 4 field_past_file) s at
+    → refused k ≡ counted_by o step s at
+no_count o step s at e = rw (← e)
+
 -- behind a count, the step that refuses tells for all
-pub counted_stop : (o : Order) (step : ℕ → Answer (Unit {0} × ℕ)) (s : List ℕ) (at n made m : ℕ) {k : ℕ} → 4 ≤ length s - at → n ≡ word_at o 4 s at
-    → made < n → repeat (n - made) step m ≡ repeat n step (at + 4) → refused k ≡ step m → refused k ≡ counted_by o step s at
-counted_stop o step s at n made m l e j h i = repeat_stop step m n made j i ∙ h ∙ rw (le-leb 4 (length s - at) l, e)
+pub counted_stop : (o : Order) (step : ℕ → Answer (Unit {0} × ℕ)) (s : List ℕ) (at n made m : ℕ) {f k : ℕ}
+    → accepted (tt, f) ≡ pass_at (bytes 4 field_past_file) s at → n ≡ word_at o 4 s at
+    → made < n → repeat (n - made) step m ≡ repeat n step f → refused k ≡ step m → refused k ≡ counted_by o step s at
+counted_stop o step s at n made m e f j h i = repeat_stop step m n made j i ∙ h ∙ rw (← e, f)
 
 -- ---- elements behind their count
 
@@ -53,12 +55,14 @@ module _ {A : Type 0} {p : Reader A} {F : A → Type 0} {put : A → List ℕ} (
           let rest = shown_of {B = List A} (λ a. tt {0}) (length s) (times n p (drop r.1 s)) (λ l. g.value ∷ l) in
           rw (e, g.reads) (more r.1 g.inside ∙ sym rest)
 
-  pub counted_steps : (o : Order) (at : ℕ) → at ≤ length s → counted_by o (pass_at p s) s at ≡ pass_at (counted o p) s at
-  counted_steps o at h =
-      by_cases (dec_le 4 (length s - at))
-      (λ l.
-      rw (le-leb 4 (length s - at) l, num-at s at o 4 field_past_file h l, word_in_lem o 4 s at (omega arith)) (times_steps _ (at + 4) (omega arith)))
-      (λ l. rw (lt-leb 4 (length s - at) (lt_of_not-le l), num-short s at o 4 field_past_file (lt_of_not-le l)))
+  pub counted_steps : (o : Order) (at : ℕ) → counted_by o (pass_at p s) s at ≡ pass_at (counted o p) s at
+  counted_steps o at = by (pass_at (bytes 4 field_past_file) s at) refl
+    where
+      by : (y : Answer (Unit {0} × ℕ)) → pass_at (bytes 4 field_past_file) s at ≡ y → counted_by o (pass_at p s) s at ≡ pass_at (counted o p) s at
+      by (refused k) e = rw (e, stopped (bytes 4 field_past_file) s at (sym e))
+      by (accepted r) e =
+          let q = bytes_there 4 field_past_file s at (sym e) (omega arith) in
+          rw (e, number_read o 4 field_past_file s at (omega arith) (sym e) refl) (times_steps _ r.1 (omega (arith, q.0, q.1)))
 
 -- ---- a walk to a name's NUL
 

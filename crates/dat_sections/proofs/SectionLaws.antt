@@ -1,8 +1,7 @@
 -- What the steps of the sections answer in each case that the code tells apart.
 -- Assumes nothing.
-use Rattle.std.specs.Prelude.{◌≡◌, refl, ℕ, ◌+◌, ◌<◌, ◌≤◌, List, ◌++◌, length, take, drop}
+use Rattle.std.specs.Prelude.{◌≡◌, refl, ℕ, ◌+◌, List, ◌++◌, length, take, drop}
 use Rattle.std.proofs.Common.{sym, ap, ◌∙◌, arith, append_assoc, length-append, take_at}
-use Rattle.refusals.specs.Refusal.{field_past_file}
 use Rattle.fields.specs.Lists.{concat_map}
 use Rattle.fields.specs.Number.{Bytes, number, field, length-field, number-field, word_at, word_in_lem}
 use Rattle.fields.specs.Answer.{Answer, accepted, refused}
@@ -17,7 +16,7 @@ use Rattle.dat_format.specs.Decode.{system, sections}
 use Rattle.dat_format.specs.ExactPieces.{exact_name, exact_after, exact_sized, exact_counted}
 use Rattle.dat_format.specs.ExactSections.{exact_system}
 use Rattle.dat_read.specs.Summary.{part_to, section_parts}
-use Rattle.dat_read.specs.Read.{stopped, gone_on, read_inside, nothing_there, length-sized, length-counted, part-is}
+use Rattle.dat_read.specs.Read.{stopped, gone_on, read_inside, length-sized, length-counted, part-is}
 use Rattle.dat_read.specs.declared.summary.Part.{Part}
 use Rattle.dat_read.specs.declared.summary.SectionParts.{SectionParts}
 
@@ -69,12 +68,8 @@ module _ (o : Order) (s : List ℕ) (at : ℕ) where
 abbrev Sections : Order → List ℕ → ℕ → Answer (SectionParts × ℕ) → Type 0
 Sections o s at x = x ≡ seen_at (section_parts o) (sections o) s at
 
-pub past_end : (o : Order) (s : List ℕ) (at : ℕ) → length s < at → Sections o s at (refused field_past_file)
-unfolding sections
-past_end o s at h = nothing_there (section_parts o) (sections o) s at field_past_file (omega arith) refl
-
 -- one stretch after another: the first that is refused refuses the sections
-module _ (o : Order) (s : List ℕ) (bytes : Bytes s) (at : ℕ) (h : at ≤ length s) where
+module _ (o : Order) (s : List ℕ) (given : Bytes s) (at : ℕ) where
   abbrev page_piece : Reader (List ℕ)
   page_piece = after page_word (sized o 8)
 
@@ -90,7 +85,7 @@ module _ (o : Order) (s : List ℕ) (bytes : Bytes s) (at : ℕ) (h : at ≤ len
 
   module _ {a : ℕ} (ea : accepted (tt, a) ≡ pass_at page_piece s at) where
     page : Piece o page_word s at a
-    page = gone_on (exact_after page_word (exact_sized o 8)) bytes h ea
+    page = gone_on (exact_after page_word (exact_sized o 8)) given (read_inside page_piece s at refl ea) ea
 
     pub bad_event : {n : ℕ} → refused n ≡ pass_at event_piece s a → Refused n
     unfolding sections
@@ -98,7 +93,7 @@ module _ (o : Order) (s : List ℕ) (bytes : Bytes s) (at : ℕ) (h : at ≤ len
 
     module _ {b : ℕ} (eb : accepted (tt, b) ≡ pass_at event_piece s a) where
       event : Piece o event_word s a b
-      event = gone_on (exact_after event_word (exact_sized o 8)) bytes page.inside eb
+      event = gone_on (exact_after event_word (exact_sized o 8)) given page.inside eb
 
       pub bad_formats : {n : ℕ} → refused n ≡ pass_at (counted o (sized o 8)) s b → Refused n
       unfolding sections
@@ -106,7 +101,7 @@ module _ (o : Order) (s : List ℕ) (bytes : Bytes s) (at : ℕ) (h : at ≤ len
 
       module _ {c : ℕ} (ec : accepted (tt, c) ≡ pass_at (counted o (sized o 8)) s b) where
         formats : Counted o (sized o 8) (DataFits 8) (put_sized o 8) s b c
-        formats = gone_on (exact_counted (exact_sized o 8) o) bytes event.inside ec
+        formats = gone_on (exact_counted (exact_sized o 8) o) given event.inside ec
 
         pub bad_systems : {n : ℕ} → refused n ≡ pass_at (counted o (system o)) s c → Refused n
         unfolding sections
@@ -114,7 +109,7 @@ module _ (o : Order) (s : List ℕ) (bytes : Bytes s) (at : ℕ) (h : at ≤ len
 
         module _ {d : ℕ} (ed : accepted (tt, d) ≡ pass_at (counted o (system o)) s c) where
           systems : Counted o (system o) SystemFits (put_system o) s c d
-          systems = gone_on (exact_counted (exact_system o) o) bytes formats.inside ed
+          systems = gone_on (exact_counted (exact_system o) o) given formats.inside ed
 
           pub sections_read : {p q r t : Part} {m n : ℕ}
               → p ≡ part_to (at + 20) a → q ≡ part_to (a + 21) b → r ≡ part_to (b + 4) c → t ≡ part_to (c + 4) d → m ≡ word_at o 4 s b → n ≡ word_at o 4 s c

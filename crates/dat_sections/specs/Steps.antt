@@ -1,10 +1,11 @@
 -- A step that is made again and again, and a count of such steps.
 -- Assumes nothing: these are definitions.
-use Rattle.std.specs.Prelude.{◌≡◌, cond, ℕ, zero, suc, ◌+◌, ◌-◌, List, length, leb, Result}
+use Rattle.std.specs.Prelude.{◌≡◌, ℕ, zero, suc, List, Result}
 use Rattle.refusals.specs.Refusal.{field_past_file}
 use Rattle.refusals.specs.declared.Refusal.{Refusal}
-use Rattle.fields.specs.Answer.{Answer, refused, next, accepted}
+use Rattle.fields.specs.Answer.{Answer, next, accepted}
 use Rattle.fields.specs.Number.{word_at}
+use Rattle.fields.specs.Reader.{bytes, pass_at}
 use Rattle.fields.specs.declared.Order.{Order}
 use Rattle.dat_read.specs.Steps.{step_meaning}
 
@@ -19,4 +20,4 @@ repeat (suc n) step at = next (step at) (λ r. repeat n step r.1)
 
 -- a count at `at`, and that many steps behind it
 abbrev pub counted_by : Order → (ℕ → Answer (Unit {0} × ℕ)) → List ℕ → ℕ → Answer (Unit {0} × ℕ)
-counted_by o step s at = cond (leb 4 (length s - at)) (repeat (word_at o 4 s at) step (at + 4)) (refused field_past_file)
+counted_by o step s at = next (pass_at (bytes 4 field_past_file) s at) (λ r. repeat (word_at o 4 s at) step r.1)

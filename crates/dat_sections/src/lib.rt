@@ -1,7 +1,7 @@
 // The sections of a header: header page and header event, the ftrace formats, the event systems.
 #![tactic(auto)]
 
-ghost use Rattle.std.specs.Prelude.{◌≡◌, ◌≤◌, length};
+ghost use Rattle.std.specs.Prelude.{◌≡◌};
 ghost use Rattle.fields.specs.Reader.{seen_at, pass_at};
 ghost use Rattle.fields.specs.Meaning.{answer_of};
 ghost use Rattle.dat_format.specs.Pieces.{after, sized, counted, name};
@@ -17,10 +17,10 @@ use fields::Order;
 use refusals::Refusal;
 
 // Each step but the last answers the place after what it read.
+// File, byte order and place stay three arguments, as the public steps have them: a struct of them would be built in each of those, and is no plainer.
 
 // A fixed string at `at`, an 8-byte size, and that many bytes.
 fn piece_at<'a>(s: &'a [u8], order: Order, word: &'a [u8], at: usize) -> Result<usize, Refusal>
-    requires { at ≤ length s.now }
     ensures { step_meaning result ≡ pass_at (after word.now (sized order 8)) s.now at }
 {
     let size = pieces::fixed_at(s, word, at)?;
@@ -34,14 +34,10 @@ fn counted_at<F: Fn(usize) -> Result<usize, Refusal>>(
     at: usize,
     element: F,
 ) -> Result<usize, Refusal>
-    requires inside { at ≤ length s.now }
-    requires callable { F.IsAlwaysCallable element }
+    requires { F.IsAlwaysCallable element }
     ensures { (g : _) → StepsAs g (F.post element) → step_meaning result ≡ counted_by order g s.now at }
 {
-    if s.len() - at < 4 {
-        return Err(Refusal::FieldPastFile);
-    }
-    let mut next = at + 4;
+    let mut next = pieces::bytes_at(s, at, 4)?;
     for _ in 0..fields::u32_at(s, order, at) {
         next = element(next)?;
     }
@@ -50,15 +46,10 @@ fn counted_at<F: Fn(usize) -> Result<usize, Refusal>>(
 
 // A count at `at`, and that many formats.
 fn formats_at(s: &[u8], order: Order, at: usize) -> Result<usize, Refusal>
-    requires { at ≤ length s.now }
     ensures { step_meaning result ≡ pass_at (counted order (sized order 8)) s.now at }
 {
-    counted_at(
-        s,
-        order,
-        at,
-        |at| pieces::sized_at(s, order, Width::Eight, at),
-    )
+    let format_at = |at| pieces::sized_at(s, order, Width::Eight, at);
+    counted_at(s, order, at, format_at)
 }
 
 // A name at `at`, and its NUL.
@@ -84,7 +75,6 @@ fn system_at(s: &[u8], order: Order, at: usize) -> Result<usize, Refusal>
 
 // A count at `at`, and that many systems.
 fn systems_at(s: &[u8], order: Order, at: usize) -> Result<usize, Refusal>
-    requires { at ≤ length s.now }
     ensures { step_meaning result ≡ pass_at (counted order (system order)) s.now at }
 {
     counted_at(s, order, at, |at| system_at(s, order, at))
@@ -94,9 +84,6 @@ fn systems_at(s: &[u8], order: Order, at: usize) -> Result<usize, Refusal>
 pub fn sections_at(s: &[u8], order: Order, at: usize) -> Result<(SectionParts, usize), Refusal>
     ensures { answer_of result ≡ seen_at (section_parts order) (sections order) s.now at }
 {
-    if s.len() < at {
-        return Err(Refusal::FieldPastFile);
-    }
     let event = piece_at(s, order, b"header_page\0", at)?;
     let formats = piece_at(s, order, b"header_event\0", event)?;
     let systems = formats_at(s, order, formats)?;

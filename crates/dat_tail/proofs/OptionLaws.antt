@@ -1,13 +1,15 @@
 -- What the steps over the options and over the CPU entries answer in each case that the code tells apart.
 -- Assumes nothing.
-use Rattle.std.specs.Prelude.{◌≡◌, ◌≢◌, refl, Bool, true, false, cond, ℕ, zero, suc, ◌+◌, ◌-◌, ◌*◌, ◌<◌, ◌≤◌, List, [], ◌∷◌, length, take, drop, eqb}
-use Rattle.std.proofs.Common.{sym, ap, ◌∙◌, le_refl, arith, length-drop, ne_eqb}
+use Rattle.std.specs.Prelude.{◌≡◌, ◌≢◌, refl, Bool, true, false, cond, ℕ, zero, suc, ◌+◌, ◌-◌, ◌*◌, ◌<◌, ◌≤◌, List, [], ◌∷◌, length, drop, eqb}
+use Rattle.std.proofs.Common.{sym, ap, ◌∙◌, le_refl, lt_of_not-le, arith, length-drop, ne_eqb}
+use Rattle.std.proofs.Math.Decide.{dec_le}
+use Rattle.std.proofs.Math.Logic.{by_cases}
 use Rattle.refusals.specs.Refusal.{field_past_file}
-use Rattle.fields.specs.Number.{Bytes, number, word_at, word_in_lem}
-use Rattle.fields.specs.Answer.{accepted, refused, next, next_cong}
-use Rattle.fields.specs.Reader.{Reader, give, seen_to, pass_at, num}
+use Rattle.fields.specs.Number.{Bytes, word_at}
+use Rattle.fields.specs.Answer.{Answer, accepted, refused, next, next_cong}
+use Rattle.fields.specs.Reader.{Reader, give, bytes, num, seen_to, pass_at}
 use Rattle.fields.specs.Takes.{Takes, shorter, takes-bytes, takes_then, takes-num, takes_less}
-use Rattle.fields.specs.At.{num-short, num-at, place_of}
+use Rattle.fields.specs.At.{bytes-short, bytes-at, place_of}
 use Rattle.fields.specs.Got.{shown_of}
 use Rattle.fields.specs.declared.Order.{Order}
 use Rattle.dat_format.specs.Pieces.{times, sized}
@@ -15,7 +17,7 @@ use Rattle.dat_format.specs.Header.{Opt}
 use Rattle.dat_format.specs.Decode.{options_f, options, range}
 use Rattle.dat_format.specs.Entries.{entries-read, entries-short}
 use Rattle.dat_format.specs.ExactPieces.{exact_sized}
-use Rattle.dat_read.specs.Read.{stopped, gone_on, Going, Sized, sized-end}
+use Rattle.dat_read.specs.Read.{stopped, gone_on, at_end, bytes_there, number_read, Sized, sized-end}
 
 -- ---- the count of the reading
 
@@ -54,57 +56,50 @@ options_eq : (o : Order) (b : List ℕ) → options o b ≡ options_f (suc (leng
 unfolding options
 options_eq o b = same_fuel o (length b) (suc (length b)) b (le_refl (length b)) (omega arith)
 
--- ---- a walk over the options, which stands at `at`
+-- ---- a turn of the walk over the options
 
-module _ (o : Order) {s : List ℕ} {from at : ℕ} (w : Going (options o) s from at) where
-  pub options-none : length s - at < 2 → refused field_past_file ≡ pass_at (options o) s from
-  options-none l =
-      let e : refused field_past_file ≡ pass_at (options o) s at = rw (options_eq o (drop at s), num-short s at o 2 field_past_file l) in
-      e ∙ w.same
+module _ (o : Order) (s : List ℕ) (at : ℕ) where
+  abbrev Kind_at : Answer (Unit {0} × ℕ) → Type 0
+  Kind_at x = x ≡ pass_at (bytes 2 field_past_file) s at
 
-  module _ (l : 2 ≤ length s - at) {t : ℕ} (et : t ≡ word_at o 2 s at) where
-    type_is : t ≡ number o (take 2 (drop at s))
-    type_is = et ∙ word_in_lem o 2 s at (omega (arith, w.inside))
+  pub options_none : {n : ℕ} → Kind_at (refused n) → refused n ≡ pass_at (options o) s at
+  options_none e = rw (options_eq o (drop at s), stopped (bytes 2 field_past_file) s at e)
 
-    pub options-end : t ≡ 0 → accepted (tt, at + 2) ≡ pass_at (options o) s from
-    options-end z =
-        let e : accepted (tt, at + 2) ≡ pass_at (options o) s at =
-        rw (options_eq o (drop at s), num-at s at o 2 field_past_file w.inside l, ← type_is, z, place_of s (at + 2) (omega (arith, w.inside))) in
-        e ∙ w.same
+  module _ {b : ℕ} (eb : Kind_at (accepted (tt, b))) {t : ℕ} (et : t ≡ word_at o 2 s at) where
+    kind_read : num o 2 field_past_file (drop at s) ≡ accepted (t, drop b s)
+    kind_read = number_read o 2 field_past_file s at (omega arith) eb et
+
+    inside : (at + 2 ≤ length s) × (b ≡ at + 2)
+    inside = bytes_there 2 field_past_file s at eb (omega arith)
+
+    pub options_end : t ≡ 0 → accepted (tt, b) ≡ pass_at (options o) s at
+    options_end z = rw (options_eq o (drop at s), kind_read, z, place_of s b (omega (arith, inside.0, inside.1)))
 
     module _ (z : t ≢ 0) where
-      turn_is : (m : ℕ) → Sized o 4 s (at + 2) m → at < m → pass_at (options o) s m ≡ pass_at (options o) s at
+      pub options_stop : {n : ℕ} → refused n ≡ pass_at (sized o 4) s b → refused n ≡ pass_at (options o) s at
+      options_stop e = rw (options_eq o (drop at s), kind_read, ne_eqb t 0 z, stopped (sized o 4) s b e)
+
+      pub options_turn : Bytes s → {m : ℕ} → accepted (tt, m) ≡ pass_at (sized o 4) s b → pass_at (options o) s m ≡ pass_at (options o) s at
       unfolding options
-      turn_is m g k =
+      options_turn given {m} e =
+          let g : Sized o 4 s b m = gone_on (exact_sized o 4) given (omega (arith, inside.0, inside.1)) e in
+          let k : at < m = omega (arith, inside.1, sized-end o 4 s b m g) in
           let more = options_f (length (drop at s)) o (drop m s) in
           let f : options_f (length (drop m s)) o (drop m s) ≡ more =
           same_fuel o (length (drop m s)) (length (drop at s)) (drop m s) (le_refl (length (drop m s))) (omega (arith, length-drop m s, length-drop at s)) in
           ap (seen_to (λ a. tt) (length s)) f
-          ∙ rw (options_eq o (drop at s), num-at s at o 2 field_past_file w.inside l, ← type_is, ne_eqb t 0 z, g.reads)
+          ∙ rw (options_eq o (drop at s), kind_read, ne_eqb t 0 z, g.reads)
           (sym (shown_of {B = List Opt} (λ a. tt) (length s) more (λ l. record { type = t; body = g.value } ∷ l)))
-
-      pub options_stop : {n : ℕ} → refused n ≡ pass_at (sized o 4) s (at + 2) → refused n ≡ pass_at (options o) s from
-      options_stop {n} e =
-          let q = stopped (sized o 4) s (at + 2) e in
-          let f : refused n ≡ pass_at (options o) s at =
-          rw (options_eq o (drop at s), num-at s at o 2 field_past_file w.inside l, ← type_is, ne_eqb t 0 z, q) in
-          f ∙ w.same
-
-      module _ (b : Bytes s) {m : ℕ} (e : accepted (tt, m) ≡ pass_at (sized o 4) s (at + 2)) where
-        option : Sized o 4 s (at + 2) m
-        option = gone_on (exact_sized o 4) b (omega (arith, w.inside)) e
-
-        pub options_further : at < m
-        options_further = omega (arith, sized-end o 4 s (at + 2) m option)
-
-        pub options_turn : Going (options o) s from m
-        options_turn = record { inside = option.inside; same = turn_is m option options_further ∙ w.same }
 
 -- ---- the entries
 
-module _ (o : Order) (s : List ℕ) (n at : ℕ) (h : at ≤ length s) where
-  pub entries_none : length s - at < 16 * n → refused field_past_file ≡ pass_at (times n (range o)) s at
-  entries_none l = rw (entries-short o s n at h l)
-
-  pub entries-here : 16 * n ≤ length s - at → accepted (tt, at + 16 * n) ≡ pass_at (times n (range o)) s at
-  entries-here l = rw (entries-read o s n at (omega arith), place_of s (at + 16 * n) (omega arith))
+-- so many bytes as n entries take
+pub entries_taken : (o : Order) (s : List ℕ) (n at : ℕ) → pass_at (bytes (16 * n) field_past_file) s at ≡ pass_at (times n (range o)) s at
+entries_taken o s n at =
+    by_cases (dec_le at (length s)) (inside at) (λ l. rw (at_end s at (omega arith)) (inside (length s) (le_refl (length s))))
+  where
+    inside : (at : ℕ) → at ≤ length s → pass_at (bytes (16 * n) field_past_file) s at ≡ pass_at (times n (range o)) s at
+    inside at h =
+        by_cases (dec_le (16 * n) (length s - at))
+        (λ l. rw (bytes-at s at (16 * n) field_past_file h l, entries-read o s n at (omega arith)))
+        (λ l. rw (bytes-short s at (16 * n) field_past_file (lt_of_not-le l), entries-short o s n at h (lt_of_not-le l)))

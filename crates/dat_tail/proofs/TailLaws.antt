@@ -1,14 +1,16 @@
 -- What the steps over a word, over the ending and over the whole tail answer in each case that the code tells apart.
 -- Assumes nothing.
-use Rattle.std.specs.Prelude.{◌≡◌, ◌≢◌, refl, Bool, true, false, cond, ℕ, ◌+◌, ◌-◌, ◌<◌, ◌≤◌, List, [], length, take, drop}
+use Rattle.std.specs.Prelude.{◌≡◌, ◌≢◌, refl, Bool, true, false, cond, ℕ, ◌+◌, ◌-◌, ◌≤◌, List, [], length, take, drop}
 use Rattle.std.proofs.Common.{sym, ap, ap₂, ◌∙◌, arith}
+use Rattle.std.proofs.Math.Decide.{dec_le}
+use Rattle.std.proofs.Math.Logic.{by_cases}
 use Rattle.std.proofs.Math.Option.{none, some}
 use Rattle.refusals.specs.Refusal.{field_past_file, bad_constant}
 use Rattle.fields.specs.Lists.{Each}
 use Rattle.fields.specs.Number.{Bytes}
 use Rattle.fields.specs.Answer.{Answer, accepted, refused, never, accepted_inj, next}
-use Rattle.fields.specs.Reader.{give, refuse, seen_to, seen_at, pass_at}
-use Rattle.fields.specs.At.{bytes-short, bytes-at, place_of}
+use Rattle.fields.specs.Reader.{give, refuse, bytes, seen_to, seen_at, pass_at}
+use Rattle.fields.specs.At.{place_of}
 use Rattle.fields.specs.Got.{Got, not_read, got, shown_of}
 use Rattle.fields.specs.declared.Order.{Order}
 use Rattle.dat_format.specs.Pieces.{times}
@@ -17,7 +19,7 @@ use Rattle.dat_format.specs.Layout.{OptFits}
 use Rattle.dat_format.specs.Decode.{is_word, word_in, word, options, range, ending, tail_after, tail}
 use Rattle.dat_format.specs.ExactTail.{exact_word, exact_options, word-length}
 use Rattle.dat_read.specs.Summary.{part, part_to, ending_parts, tail_parts_after, tail_parts}
-use Rattle.dat_read.specs.Read.{stopped, gone_on, nothing_there, part-is}
+use Rattle.dat_read.specs.Read.{stopped, gone_on, nothing_there, read_inside, bytes_there, bytes_read, part-is}
 use Rattle.dat_read.specs.declared.summary.Part.{Part}
 use Rattle.dat_read.specs.declared.summary.TailParts.{TailParts}
 use Rattle.dat_tail.specs.Steps.{word_meaning, word_told, word_seen}
@@ -26,29 +28,43 @@ use Rattle.dat_tail.specs.declared.Word.TheVariants.{Options, Latency, Flyrecord
 
 -- ---- the 10-byte word
 
-module _ (s : List ℕ) (at : ℕ) (h : at ≤ length s) where
+module _ (s : List ℕ) (at : ℕ) where
   abbrev Words : Answer (Word × ℕ) → Type 0
   Words x = x ≡ seen_at word_seen word s at
 
-  pub no_word : length s - at < 10 → Words (refused field_past_file)
+  abbrev Ten_at : Answer (Unit {0} × ℕ) → Type 0
+  Ten_at x = x ≡ pass_at (bytes 10 field_past_file) s at
+
+  pub no_word : {n : ℕ} → Ten_at (refused n) → Words (refused n)
   unfolding word
-  no_word l = rw (bytes-short s at 10 field_past_file l)
+  no_word e = rw (stopped (bytes 10 field_past_file) s at e)
 
-  module _ (l : 10 ≤ length s - at) where
-    abbrev found : List ℕ
-    found = take (at + 10 - at) (drop at s)
+  module _ {m : ℕ} (em : Ten_at (accepted (tt, m))) where
+    inside : (at + 10 ≤ length s) × (m ≡ at + 10)
+    inside = bytes_there 10 field_past_file s at em (omega arith)
 
-    pub word_there : {x : Answer Word} → x ≡ word_told found → Words (next x (λ w. accepted (w, at + 10)))
+    pub word_there : {x : Answer Word} → x ≡ word_told (take (m - at) (drop at s)) → Words (next x (λ w. accepted (w, m)))
     unfolding word
     word_there {x} e =
-        let ten : at + 10 - at ≡ 10 = omega arith in
-        rw (e, ten, bytes-at s at 10 field_past_file h l) (by (is_word (take 10 (drop at s))))
+        let i : m - at ≡ 10 = omega (arith, inside.1) in
+        let j : m - 10 ≡ at = omega (arith, inside.1) in
+        rw (e, i, bytes_read 10 field_past_file s at em, j) (by (is_word (take 10 (drop at s))))
       where
-        by : (t : Bool) → next (cond t (accepted (word_in (take 10 (drop at s)))) (refused bad_constant)) (λ w. accepted (w, at + 10))
+        by : (t : Bool) → next (cond t (accepted (word_in (take 10 (drop at s)))) (refused bad_constant)) (λ w. accepted (w, m))
             ≡ seen_to (word_seen at) (length s)
-            (next {A = List ℕ × List ℕ} (cond t (give (take 10 (drop at s))) (refuse bad_constant) (drop (at + 10) s)) (λ r. accepted (word_in r.0, r.1)))
-        by true = rw (place_of s (at + 10) (omega arith))
+            (next {A = List ℕ × List ℕ} (cond t (give (take 10 (drop at s))) (refuse bad_constant) (drop m s)) (λ r. accepted (word_in r.0, r.1)))
+        by true = rw (place_of s m (omega (arith, inside.0, inside.1)))
         by false = refl
+
+-- neither a word nor a list of options is read behind the end
+word_inside : (s : List ℕ) (at : ℕ) {v : Word} {m : ℕ} → accepted (v, m) ≡ seen_at word_seen word s at → at ≤ length s
+unfolding word
+word_inside s at e =
+    by_cases (dec_le at (length s)) (λ h. h) (λ l. never (nothing_there word_seen word s at field_past_file (omega arith) refl ∙ sym e))
+
+options_inside : (o : Order) (s : List ℕ) (at : ℕ) {m : ℕ} → accepted (tt, m) ≡ pass_at (options o) s at → at ≤ length s
+unfolding options
+options_inside o s at e = read_inside (options o) s at refl e
 
 -- a word v that was read, and the place after it
 pub record Worded (s : List ℕ) (at : ℕ) (v : Word) (m : ℕ) : Type 0 where
@@ -93,7 +109,7 @@ module _ (o : Order) (n : ℕ) (p : Part) (s : List ℕ) (at : ℕ) where
 
 -- ---- options and the ending
 
-module _ (o : Order) (n : ℕ) (s : List ℕ) (bytes : Bytes s) (at : ℕ) (h : at ≤ length s) where
+module _ (o : Order) (n : ℕ) (s : List ℕ) (given : Bytes s) (at : ℕ) where
   abbrev After : Answer (TailParts × ℕ) → Type 0
   After x = x ≡ seen_at (tail_parts_after o) (tail_after o n options_word) s at
 
@@ -103,7 +119,7 @@ module _ (o : Order) (n : ℕ) (s : List ℕ) (bytes : Bytes s) (at : ℕ) (h : 
 
   module _ {m : ℕ} (eo : accepted (tt, m) ≡ pass_at (options o) s at) where
     listed : Got (options o) (Each OptFits) (put_list o) s at m
-    listed = gone_on (exact_options o) bytes h eo
+    listed = gone_on (exact_options o) given (options_inside o s at eo) eo
 
     pub bad_second : {k : ℕ} → refused k ≡ seen_at word_seen word s m → After (refused k)
     unfolding tail_after
@@ -116,7 +132,7 @@ module _ (o : Order) (n : ℕ) (s : List ℕ) (bytes : Bytes s) (at : ℕ) (h : 
         → x ≡ seen_at (ending_parts p) (ending o n v) s e → After x
     unfolding tail_after
     with_options {v} {e} ew {p} ep k =
-        let w = worded bytes listed.inside ew in
+        let w = worded given listed.inside ew in
         let place : e ≡ at + size + 10 = omega (arith, listed.place, word_end w) in
         let rest = ending o n v (drop e s) in
         k ∙ ap₂ (λ p i. seen_to (ending_parts p i) (length s) rest) (part-is at m size p ep listed.place) place
@@ -129,17 +145,13 @@ module _ (o : Order) (n : ℕ) (s : List ℕ) (at : ℕ) where
   abbrev Tails : Answer (TailParts × ℕ) → Type 0
   Tails x = x ≡ seen_at (tail_parts o) (tail o n) s at
 
-  pub past_end : length s < at → Tails (refused field_past_file)
-  unfolding tail word
-  past_end l = nothing_there (tail_parts o) (tail o n) s at field_past_file (omega arith) refl
-
   pub bad_first : {k : ℕ} → refused k ≡ seen_at word_seen word s at → Tails (refused k)
   unfolding tail
   bad_first {k} e = rw (not_read word_seen word s at k e)
 
-  module _ (bytes : Bytes s) (h : at ≤ length s) (v : code.Word) {m : ℕ} (ew : accepted (word_meaning v, m) ≡ seen_at word_seen word s at) where
+  module _ (given : Bytes s) (v : code.Word) {m : ℕ} (ew : accepted (word_meaning v, m) ≡ seen_at word_seen word s at) where
     first : Worded s at (word_meaning v) m
-    first = worded bytes h ew
+    first = worded given (word_inside s at ew) ew
 
     abbrev none_before : Answer (Ending × List ℕ) → Answer (Tail × List ℕ)
     none_before y = next y (λ r. accepted (record { options = none; ending = r.0 }, r.1))

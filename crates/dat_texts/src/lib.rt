@@ -23,9 +23,7 @@ pub fn texts_at(s: &[u8], order: Order, at: usize) -> Result<(TextParts, usize),
     let printk = pieces::sized_at(s, order, Width::Four, at)?;
     let processes = pieces::sized_at(s, order, Width::Four, printk)?;
     let count = pieces::sized_at(s, order, Width::Eight, processes)?;
-    if s.len() - count < 4 {
-        return Err(Refusal::FieldPastFile);
-    }
+    let end = pieces::bytes_at(s, count, 4)?;
     let cpus = fields::u32_at(s, order, count);
     if MOST_CPUS < cpus {
         return Err(Refusal::BadRange);
@@ -36,5 +34,5 @@ pub fn texts_at(s: &[u8], order: Order, at: usize) -> Result<(TextParts, usize),
         processes: summary::span(processes + 8, count),
         cpus,
     };
-    Ok((texts, count + 4))
+    Ok((texts, end))
 }

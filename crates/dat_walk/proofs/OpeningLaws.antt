@@ -1,13 +1,13 @@
 -- What the steps of the opening answer in each case that the code tells apart.
 -- Assumes nothing.
-use Rattle.std.specs.Prelude.{◌≡◌, refl, true, false, ℕ, zero, suc, ◌+◌, ◌-◌, ◌<◌, ◌≤◌, List, length, take, drop, get_or, Ok}
+use Rattle.std.specs.Prelude.{◌≡◌, refl, true, false, ℕ, zero, suc, List, drop, get_or, Ok}
 use Rattle.std.specs.Result.{IsErr}
 use Rattle.std.proofs.Common.{◌∙◌, arith}
 use Rattle.refusals.specs.Refusal.{field_past_file, bad_constant}
-use Rattle.fields.specs.Number.{Bytes, number, word_at, word_in_lem}
+use Rattle.fields.specs.Number.{Bytes, word_at}
 use Rattle.fields.specs.Answer.{Answer, accepted, refused}
-use Rattle.fields.specs.Reader.{seen_at, pass_at}
-use Rattle.fields.specs.At.{byte_at, num-short, num-at, place_of}
+use Rattle.fields.specs.Reader.{bytes, num, seen_at, pass_at}
+use Rattle.fields.specs.At.{byte_at, place_of}
 use Rattle.fields.specs.Orders.{order_numbered}
 use Rattle.fields.specs.declared.Order.{Order}
 use Rattle.fields.specs.declared.Order.TheVariants.{Little}
@@ -17,8 +17,18 @@ use Rattle.dat_format.specs.Tests.{is_long, is_page}
 use Rattle.dat_format.specs.Decode.{order_in, sizes, flags, opening}
 use Rattle.dat_format.specs.ExactPieces.{exact_fixed}
 use Rattle.dat_read.specs.Summary.{flags_seen}
-use Rattle.dat_read.specs.Read.{Fixed, stopped, gone_on}
+use Rattle.dat_read.specs.Read.{Fixed, stopped, gone_on, bytes_there, number_read}
 use Rattle.dat_read.specs.declared.summary.Flags.{Flags}
+
+-- ---- a byte that was there
+
+abbrev One_at : List ℕ → ℕ → Answer (Unit {0} × ℕ) → Type 0
+One_at s at x = x ≡ pass_at (bytes 1 field_past_file) s at
+
+byte_read : (s : List ℕ) (at : ℕ) {m : ℕ} → One_at s at (accepted (tt, m)) → num Little 1 field_past_file (drop at s) ≡ accepted (get_or s at 0, drop m s)
+byte_read s at e =
+    let q = bytes_there 1 field_past_file s at e (omega arith) in
+    rw (byte_at s at field_past_file (omega (arith, q.0)), q.1)
 
 -- ---- long size and page size
 
@@ -26,39 +36,33 @@ module _ (s : List ℕ) (o : Order) (at : ℕ) where
   abbrev Sizes : Answer (Flags × ℕ) → Type 0
   Sizes x = x ≡ seen_at flags_seen (sizes o) s at
 
-  pub no-long : length s ≤ at → Sizes (refused field_past_file)
+  pub no_long : {n : ℕ} → One_at s at (refused n) → Sizes (refused n)
   unfolding sizes
-  no-long l = rw (num-short s at Little 1 field_past_file (omega arith))
+  no_long e = rw (stopped (bytes 1 field_past_file) s at e)
 
-  module _ (l : at < length s) where
-    pub bad-long : is_long (get_or s at 0) ≡ false → Sizes (refused bad_constant)
+  module _ {a : ℕ} (ea : One_at s at (accepted (tt, a))) where
+    pub bad_long : is_long (get_or s at 0) ≡ false → Sizes (refused bad_constant)
     unfolding sizes
-    bad-long e = rw (byte_at s at field_past_file l, e)
+    bad_long e = rw (byte_read s at ea, e)
 
     module _ (e : is_long (get_or s at 0) ≡ true) where
-      pub no_page : length s - (at + 1) < 4 → Sizes (refused field_past_file)
+      pub no_page : {n : ℕ} → refused n ≡ pass_at (bytes 4 field_past_file) s a → Sizes (refused n)
       unfolding sizes
-      no_page k = rw (byte_at s at field_past_file l, e, num-short s (at + 1) o 4 field_past_file k)
+      no_page f = rw (byte_read s at ea, e, stopped (bytes 4 field_past_file) s a f)
 
-      module _ (k : 4 ≤ length s - (at + 1)) {p : ℕ} (ep : p ≡ word_at o 4 s (at + 1)) where
-        page_is : p ≡ number o (take 4 (drop (at + 1) s))
-        page_is = ep ∙ word_in_lem o 4 s (at + 1) (omega arith)
+      module _ {b : ℕ} (eb : accepted (tt, b) ≡ pass_at (bytes 4 field_past_file) s a) {p : ℕ} (ep : p ≡ word_at o 4 s a) where
+        page_read : num o 4 field_past_file (drop a s) ≡ accepted (p, drop b s)
+        page_read = number_read o 4 field_past_file s a (omega arith) eb ep
 
         pub bad_page : is_page p ≡ false → Sizes (refused bad_constant)
         unfolding sizes
-        bad_page f = rw (byte_at s at field_past_file l, e, num-at s (at + 1) o 4 field_past_file (omega arith) k, ← page_is, f)
+        bad_page f = rw (byte_read s at ea, e, page_read, f)
 
-        pub sizes-read : is_page p ≡ true → Sizes (accepted (record { order = o; long = get_or s at 0; page = p }, at + 1 + 4))
+        pub sizes_read : is_page p ≡ true → Sizes (accepted (record { order = o; long = get_or s at 0; page = p }, b))
         unfolding sizes
-        sizes-read f =
-            rw (
-              byte_at s at field_past_file l,
-              e,
-              num-at s (at + 1) o 4 field_past_file (omega arith) k,
-              ← page_is,
-              f,
-              place_of s (at + 1 + 4) (omega arith),
-            )
+        sizes_read f =
+            let q = bytes_there 4 field_past_file s a eb (omega arith) in
+            rw (byte_read s at ea, e, page_read, f, place_of s b (omega (arith, q.0, q.1)))
 
 -- ---- the byte order before them
 
@@ -76,22 +80,22 @@ module _ (s : List ℕ) (at : ℕ) where
   abbrev FlagsAre : Answer (Flags × ℕ) → Type 0
   FlagsAre x = x ≡ seen_at flags_seen flags s at
 
-  pub no-order : length s ≤ at → FlagsAre (refused field_past_file)
+  pub no_order : {n : ℕ} → One_at s at (refused n) → FlagsAre (refused n)
   unfolding flags
-  no-order l = rw (num-short s at Little 1 field_past_file (omega arith))
+  no_order e = rw (stopped (bytes 1 field_past_file) s at e)
 
-  module _ (l : at < length s) where
+  module _ {a : ℕ} (ea : One_at s at (accepted (tt, a))) where
     pub bad_order : IsErr (order_numbered (get_or s at 0)) → FlagsAre (refused bad_constant)
     unfolding flags
-    bad_order e = rw (byte_at s at field_past_file l, order_not (get_or s at 0) (drop (at + 1) s) e)
+    bad_order e = rw (byte_read s at ea, order_not (get_or s at 0) (drop a s) e)
 
-    pub with_order : {o : Order} → order_numbered (get_or s at 0) ≡ Ok o → {x : Answer (Flags × ℕ)} → x ≡ seen_at flags_seen (sizes o) s (at + 1) → FlagsAre x
+    pub with_order : {o : Order} → order_numbered (get_or s at 0) ≡ Ok o → {x : Answer (Flags × ℕ)} → x ≡ seen_at flags_seen (sizes o) s a → FlagsAre x
     unfolding flags
-    with_order e k = k ∙ rw (byte_at s at field_past_file l, order_read (get_or s at 0) (drop (at + 1) s) e)
+    with_order e k = k ∙ rw (byte_read s at ea, order_read (get_or s at 0) (drop a s) e)
 
 -- ---- the three strings before these
 
-module _ (s : List ℕ) (bytes : Bytes s) where
+module _ (s : List ℕ) (given : Bytes s) where
   abbrev Opens : Answer (Flags × ℕ) → Type 0
   Opens x = x ≡ seen_at flags_seen opening s 0
 
@@ -101,7 +105,7 @@ module _ (s : List ℕ) (bytes : Bytes s) where
 
   module _ {a : ℕ} (ea : accepted (tt, a) ≡ pass_at (fixed magic) s 0) where
     first : Fixed magic s 0 a
-    first = gone_on (exact_fixed magic) bytes (omega arith) ea
+    first = gone_on (exact_fixed magic) given (omega arith) ea
 
     pub bad_tracing : {n : ℕ} → refused n ≡ pass_at (fixed tracing) s a → Opens (refused n)
     unfolding opening
@@ -109,7 +113,7 @@ module _ (s : List ℕ) (bytes : Bytes s) where
 
     module _ {b : ℕ} (eb : accepted (tt, b) ≡ pass_at (fixed tracing) s a) where
       second : Fixed tracing s a b
-      second = gone_on (exact_fixed tracing) bytes first.inside eb
+      second = gone_on (exact_fixed tracing) given first.inside eb
 
       pub bad_version : {n : ℕ} → refused n ≡ pass_at (fixed version) s b → Opens (refused n)
       unfolding opening
@@ -117,7 +121,7 @@ module _ (s : List ℕ) (bytes : Bytes s) where
 
       module _ {c : ℕ} (ec : accepted (tt, c) ≡ pass_at (fixed version) s b) where
         third : Fixed version s b c
-        third = gone_on (exact_fixed version) bytes second.inside ec
+        third = gone_on (exact_fixed version) given second.inside ec
 
         pub opening_read : {x : Answer (Flags × ℕ)} → x ≡ seen_at flags_seen flags s c → Opens x
         unfolding opening

@@ -35,7 +35,7 @@ module _ (len : ℕ) (h : Header) (f : Flags) (ps : SectionParts) (ts : TextPart
 
 -- ---- the walk: the first stretch that is refused refuses the header
 
-module _ (s : List ℕ) (bytes : Bytes s) where
+module _ (s : List ℕ) (given : Bytes s) where
   abbrev Walks : Answer (Summary × ℕ) → Type 0
   Walks x = x ≡ seen_at (summary_seen (length s)) header s 0
 
@@ -45,7 +45,7 @@ module _ (s : List ℕ) (bytes : Bytes s) where
 
   module _ {f : Flags} {a : ℕ} (eo : accepted (f, a) ≡ seen_at flags_seen opening s 0) where
     opened : (g : Got opening OpeningFits put_opening s 0 a) × (flags_seen 0 g.value ≡ f)
-    opened = got exact_opening s bytes 0 (omega arith) flags_seen f a eo
+    opened = got exact_opening s given 0 (omega arith) flags_seen f a eo
 
     abbrev o : Order
     o = opened.0.value.order
@@ -66,7 +66,7 @@ module _ (s : List ℕ) (bytes : Bytes s) where
 
     module _ {ps : SectionParts} {b : ℕ} (es : accepted (ps, b) ≡ seen_at (section_parts f.order) (sections f.order) s a) where
       sectioned : (g : Got (sections o) SectionsFit (put_sections o) s a b) × (section_parts o a g.value ≡ ps)
-      sectioned = got (exact_sections o) s bytes a opened.0.inside (section_parts o) ps b (by_order es)
+      sectioned = got (exact_sections o) s given a opened.0.inside (section_parts o) ps b (by_order es)
 
       abbrev SeenTexts : Order → Answer (TextParts × ℕ) → Type 0
       SeenTexts o x = x ≡ seen_at text_parts (texts o) s b
@@ -80,7 +80,7 @@ module _ (s : List ℕ) (bytes : Bytes s) where
 
       module _ {ts : TextParts} {c : ℕ} (et : accepted (ts, c) ≡ seen_at text_parts (texts f.order) s b) where
         texted : (g : Got (texts o) TextsFit (put_texts o) s b c) × (text_parts b g.value ≡ ts)
-        texted = got (exact_texts o) s bytes b sectioned.0.inside text_parts ts c (texts_by_order et)
+        texted = got (exact_texts o) s given b sectioned.0.inside text_parts ts c (texts_by_order et)
 
         abbrev n : ℕ
         n = texted.0.value.cpus
@@ -101,7 +101,7 @@ module _ (s : List ℕ) (bytes : Bytes s) where
 
         module _ {tp : TailParts} {end : ℕ} (el : accepted (tp, end) ≡ seen_at (tail_parts f.order) (tail f.order ts.cpus) s c) where
           tailed : (g : Got (tail o n) (TailFits n) (put_tail o) s c end) × (tail_parts o c g.value ≡ tp)
-          tailed = got (exact_tail o n) s bytes c texted.0.inside (tail_parts o) tp end (tail_by_both el)
+          tailed = got (exact_tail o n) s given c texted.0.inside (tail_parts o) tp end (tail_by_both el)
 
           abbrev whole : Header
           whole = record { opening = opened.0.value; sections = sectioned.0.value; texts = texted.0.value; tail = tailed.0.value }
@@ -112,7 +112,7 @@ module _ (s : List ℕ) (bytes : Bytes s) where
 
           end_is : length (encode whole) ≡ end
           end_is =
-              let laid = (exact_header.forth s whole (drop end s) bytes header_is).1 in
+              let laid = (exact_header.forth s whole (drop end s) given header_is).1 in
               omega (arith, tailed.0.inside, length-drop end s, length-append (encode whole) (drop end s), ap length laid)
 
           pub all_read : {body : Part} → body ≡ body_of tp.ending tp.place end (length s)

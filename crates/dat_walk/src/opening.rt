@@ -1,5 +1,5 @@
 // The opening of a header: three fixed strings, then byte order, long size and page size.
-ghost use Rattle.std.specs.Prelude.{◌≡◌, ◌≤◌, length};
+ghost use Rattle.std.specs.Prelude.{◌≡◌};
 ghost use Rattle.fields.specs.Reader.{seen_at};
 ghost use Rattle.fields.specs.Meaning.{answer_of};
 ghost use Rattle.dat_format.specs.Decode.{sizes, flags, opening};
@@ -14,37 +14,28 @@ use refusals::Refusal;
 
 // Long size and page size at `at`, behind a byte order.
 fn sizes_at(s: &[u8], order: Order, at: usize) -> Result<(Flags, usize), Refusal>
-    requires { at ≤ length s.now }
     ensures { answer_of result ≡ seen_at flags_seen (sizes order) s.now at }
 {
-    if s.len() <= at {
-        return Err(Refusal::FieldPastFile);
-    }
+    let place = pieces::bytes_at(s, at, 1)?;
     let long = s[at];
     if !dat_format::is_long(long) {
         return Err(Refusal::BadConstant);
     }
-    let place = at + 1;
-    if s.len() - place < 4 {
-        return Err(Refusal::FieldPastFile);
-    }
+    let end = pieces::bytes_at(s, place, 4)?;
     let page = fields::u32_at(s, order, place);
     if !dat_format::is_page(page) {
         return Err(Refusal::BadConstant);
     }
-    Ok((Flags { order, long, page }, place + 4))
+    Ok((Flags { order, long, page }, end))
 }
 
 // Byte order, long size and page size at `at`.
 fn flags_at(s: &[u8], at: usize) -> Result<(Flags, usize), Refusal>
-    requires { at ≤ length s.now }
     ensures { answer_of result ≡ seen_at flags_seen flags s.now at }
 {
-    if s.len() <= at {
-        return Err(Refusal::FieldPastFile);
-    }
+    let sizes = pieces::bytes_at(s, at, 1)?;
     let order = Order::try_from(s[at]).map_err(|_| Refusal::BadConstant)?;
-    sizes_at(s, order, at + 1)
+    sizes_at(s, order, sizes)
 }
 
 // The opening of a file: its three fixed strings, and the flags.

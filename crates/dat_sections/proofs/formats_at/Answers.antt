@@ -11,4 +11,4 @@ pub returns : goal.returns
 returns c =
     let a = c.args in
     c.counted_at.ensures (pass_at (sized a.order 8) a.s.now) (λ at r k. search rules)
-    ∙ counted_steps (exact_sized a.order 8) a.s.now (bytes-given a.s.now c.type_inv.s) a.order a.at c.requires
+    ∙ counted_steps (exact_sized a.order 8) a.s.now (bytes-given a.s.now c.type_inv.s) a.order a.at

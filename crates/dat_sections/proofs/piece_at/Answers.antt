@@ -2,12 +2,11 @@
 use Rattle.std.proofs.Common.{◌∙◌}
 use Rattle.fields.specs.Given.{bytes-given}
 use Rattle.dat_format.specs.ExactPieces.{exact_fixed}
-use Rattle.dat_read.specs.Read.{Fixed, gone_on}
+use Rattle.dat_read.specs.Read.{reads_on}
 use Rattle.dat_sections.proofs.piece_at.Goals as goal
 
 pub returns : goal.returns
 returns c =
     let a = c.args in
-    let word : Fixed a.word.now a.s.now a.at c.in_ok-size.size =
-    gone_on (exact_fixed a.word.now) (bytes-given a.s.now c.type_inv.s) c.requires c.in_ok-size.ensures in
-    c.sized_at.ensures ∙ rw word.reads
+    let word = reads_on (exact_fixed a.word.now) a.s.now (bytes-given a.s.now c.type_inv.s) a.at c.in_ok-size.ensures in
+    c.sized_at.ensures ∙ rw word.1

@@ -1,11 +1,11 @@
 -- The options left from `next` on end where the whole does.
-use Rattle.std.proofs.Common.{◌-◌, length}
+use Rattle.std.proofs.Common.{◌≡◌, ◌-◌, length}
+use Rattle.fields.specs.Reader.{pass_at}
 use Rattle.dat_format.specs.Decode.{options}
-use Rattle.dat_read.specs.Read.{Going}
 use Rattle.dat_tail.proofs.options_at.Given as goal
 
-abbrev pub invariant-loop-next : goal.invariant-loop-next
-invariant-loop-next l = Going (options l.order) l.s l.at l.next
+abbrev pub invariant-loop-body : goal.invariant-loop-body
+invariant-loop-body l = pass_at (options l.order) l.s l.next ≡ pass_at (options l.order) l.s l.at
 
-abbrev pub decreases-loop-next : goal.decreases-loop-next
-decreases-loop-next l = length l.s - l.next
+abbrev pub decreases-loop-body : goal.decreases-loop-body
+decreases-loop-body l = length l.s - l.next
