@@ -4,7 +4,6 @@
 ghost use Rattle.std.specs.Prelude.{◌≡◌, ◌≤◌, length, take};
 ghost use Rattle.gdb_listing.specs.Text.{text, listed};
 
-use gdb_listing::ListingAnswer;
 use std::io;
 
 // The longest file that is listed, and one byte more, which tells that input goes on. The `ensures` keeps the prover from
@@ -22,16 +21,12 @@ fn output_room() -> [u8; 196626]
     [0; 196626]
 }
 
-// The listing of `file` at the front of `output`, and its length.
+// The listing of `file` at the front of `output`, and its length: there is room for it, so it is not refused.
 fn put_listing(file: &[u8], output: &mut [u8]) -> usize
     requires { 196626 ≤ length output.old }
     ensures { (result ≤ length output.new) × (take result output.new ≡ text (listed file.now)) }
 {
-    match gdb_listing::listing(file, output) {
-        ListingAnswer::Written(n) => n,
-        // The proof shows that this cannot be.
-        ListingAnswer::NoRoom => 0,
-    }
+    gdb_listing::listing(file, output).unwrap()
 }
 
 fn main(rt: HostRuntime) -> io::Result<()> {

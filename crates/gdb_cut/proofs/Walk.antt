@@ -1,88 +1,83 @@
--- A turn of a walk over the heads of an accepted file: which bytes the frame adds to what is kept.
+-- A turn of a walk over the heads of an accepted file: which frame it adds to those that are kept.
 -- Assumes nothing.
-use mathlib.Core.Path.{◌≡◌, refl, sym, ap, ◌∙◌}
-use mathlib.Core.Bool.{Bool, true, false, cond}
-use mathlib.Core.Option.{none, some}
-use Prim.Native.Nat.{ℕ, ◌+◌, ◌-◌, ◌<◌, ◌≤◌}
-use native.Mathlib.Omega.{arith}
-use mathlib.Core.List.{List, [], ◌∷◌, ◌++◌}
-use lib.ListN.{length, take, drop, length-append, length-drop}
-use lib.Seq.{take_at}
-use Rattle.fields.specs.Lists.{concat_map, length_part}
-use Rattle.fields.specs.Number.{Bytes, bytes_drop}
-use Rattle.fields.specs.Answer.{accepted, refused, next_inv, never}
+use Rattle.std.proofs.Common.{◌≡◌, refl, sym, ap, ◌∙◌, arith, Bool, true, false, ℕ, ◌-◌, ◌<◌, List, [], ◌∷◌, ◌++◌, length, take, drop, take_at, length-append, length-drop}
+use Rattle.std.specs.Prelude.{Result, Ok, Err, IsOk}
+use Rattle.std.specs.Prelude.{Option as Optional}
+use Rattle.std.proofs.Math.Option.{none, some}
+use Rattle.refusals.specs.Number.{number}
+use Rattle.refusals.specs.declared.Refusal.{Refusal}
+use Rattle.fields.specs.Lists.{clash}
+use Rattle.fields.specs.Number.{bytes_drop, bytes-all}
+use Rattle.fields.specs.Answer.{Answer, accepted, refused, next}
 use Rattle.fields.specs.Reader.{to_end, step_at}
 use Rattle.fields.specs.At.{Turn, walk_end, walk_refused, walk_more}
 use Rattle.gdb_format.specs.Trace.{put_data}
 use Rattle.gdb_format.specs.Decode.{frame_head}
 use Rattle.gdb_format.specs.ExactFrame.{exact_head, takes-head}
 use Rattle.gdb_format.specs.declared.Format.{Format}
-use Rattle.gdb_read.specs.Steps.{Row, head_seen}
+use Rattle.gdb_read.specs.Steps.{Row, head_seen, frame_meaning}
+use Rattle.gdb_read.specs.declared.FrameStep.{FrameStep}
 use Rattle.gdb_select.specs.Selection.{Selection, selects}
-use Rattle.gdb_cut.specs.Kept.{kept_of, kept, Heads}
+use Rattle.gdb_cut.specs.Kept.{kept_frames, kept_frames_of, heads_fill, HeadsFrom, was_accepted}
 
-one_kept : (f : Format) (t : Bool) (h : ℕ × List ℕ) (w : List ℕ) (l : List (ℕ × List ℕ)) → put_data f h ≡ w
-    → concat_map (put_data f) (cond t (h ∷ l) l) ≡ cond t w [] ++ concat_map (put_data f) l
-one_kept f true h w l e = ap (λ x. x ++ concat_map (put_data f) l) e
-one_kept f false h w l e = refl
+-- the heads that fill b
+pub filling : (f : Format) (b : List ℕ) → heads_fill f b ≡ true → (hs : List (ℕ × List ℕ)) × (to_end (frame_head f) b ≡ accepted hs)
+filling f b h = by (to_end (frame_head f) b) h
+  where
+    by : (x : Answer (List (ℕ × List ℕ))) → was_accepted x ≡ true → (hs : List (ℕ × List ℕ)) × (x ≡ accepted hs)
+    by (accepted hs) h = (hs, refl)
+    by (refused n) h = clash (cc)
 
 module _ (f : Format) (b : List ℕ) (at : ℕ) where
-  pub kept-end : (c : Selection) → accepted none ≡ step_at head_seen (frame_head f) b at → kept f c (drop at b) ≡ []
-  unfolding kept
+  pub kept-end : (c : Selection) → accepted none ≡ step_at head_seen (frame_head f) b at → kept_frames f c (drop at b) ≡ []
+  unfolding kept_frames
   kept-end c e = rw (walk_end head_seen (frame_head f) (takes-head f) b at (sym e))
 
-  pub heads_never : {X : Type 0} (n : ℕ) → Heads f (drop at b) → refused n ≡ step_at head_seen (frame_head f) b at → X
-  heads_never n y e = never (sym (walk_refused head_seen (frame_head f) (takes-head f) b at n (sym e)) ∙ y.1)
+  -- no head is refused
+  pub never-refused : (r : Result (Optional FrameStep) Refusal) → HeadsFrom f b at → frame_meaning r ≡ step_at head_seen (frame_head f) b at → IsOk r
+  never-refused (Ok s) h e = refl
+  never-refused (Err k) h e =
+      let z : ◌≡◌ {A = Bool} false true = ap was_accepted (sym (walk_refused head_seen (frame_head f) (takes-head f) b at (number k) (sym e))) ∙ h.2 in clash (cc)
 
-  -- the frame that was met: where the next starts, and which bytes it adds to what is kept
-  pub record Passed (v : Row) (m : ℕ) : Type 0 where
-    pub past : at < m
-    pub inside : m ≤ length b
-    pub rest : Heads f (drop m b)
-    pub keeps : (c : Selection) → kept f c (drop at b) ≡ cond (selects c v.tracepoint) (take (m - at) (drop at b)) [] ++ kept f c (drop m b)
+-- the frame that was met: where the next starts, and the frame where it is selected
+pub record Passed (f : Format) (b : List ℕ) (at : ℕ) (v : Row) (m : ℕ) : Type 0 where
+  pub past : at < m
+  pub onward : HeadsFrom f b m
+  pub yes : (c : Selection) → selects c v.tracepoint ≡ true → kept_frames f c (drop at b) ≡ take (m - at) (drop at b) ∷ kept_frames f c (drop m b)
+  pub no : (c : Selection) → selects c v.tracepoint ≡ false → kept_frames f c (drop at b) ≡ kept_frames f c (drop m b)
 
-  module _ (bs : Bytes b) (y : Heads f (drop at b)) (v : Row) (m : ℕ) (e : accepted (some (v, m)) ≡ step_at head_seen (frame_head f) b at) where
-    turn : Turn head_seen (frame_head f) b at v m
-    turn = walk_more head_seen (frame_head f) (takes-head f) b at v m (sym e)
+one_more : (x : Answer (List (ℕ × List ℕ))) (h : ℕ × List ℕ) → was_accepted (next x (λ l. accepted (h ∷ l))) ≡ true → was_accepted x ≡ true
+one_more (accepted hs) h e = refl
+one_more (refused n) h e = e
 
-    head_bytes_lem : put_data f turn.element ≡ take (m - at) (drop at b)
-    head_bytes_lem =
-        let w : put_data f turn.element ++ drop m b ≡ drop at b =
-        ((exact_head f).forth (drop at b) turn.element (drop m b) (bytes_drop at b bs) turn.read).1 in
-        let n : length (put_data f turn.element) ≡ m - at =
-        omega (arith, ap length w, length-append (put_data f turn.element) (drop m b), length-drop m b, length-drop at b, turn.later, turn.within) in
-        sym (ap (take (m - at)) (sym w) ∙ take_at (put_data f turn.element) (drop m b) (m - at) n)
+module _ (f : Format) (c : Selection) (h : ℕ × List ℕ) where
+  one_kept : (x : Answer (List (ℕ × List ℕ))) → was_accepted x ≡ true → selects c h.0 ≡ true
+      → kept_frames_of f c (next x (λ l. accepted (h ∷ l))) ≡ put_data f h ∷ kept_frames_of f c x
+  one_kept (accepted hs) e s = rw s
+  one_kept (refused n) e s = clash (cc)
 
-    number_is : turn.element.0 ≡ v.tracepoint
-    number_is = ap (λ (r : Row). r.tracepoint) turn.shown
+  none_kept : (x : Answer (List (ℕ × List ℕ))) → selects c h.0 ≡ false → kept_frames_of f c (next x (λ l. accepted (h ∷ l))) ≡ kept_frames_of f c x
+  none_kept (accepted hs) s = rw s
+  none_kept (refused n) s = refl
 
-    passed_over : Passed v m
-    unfolding kept
-    passed_over =
-        let q = next_inv (to_end (frame_head f) (drop m b)) (λ l. accepted (turn.element ∷ l)) (sym turn.more ∙ y.1) in
-        record {
-          past = turn.later;
-          inside = turn.within;
-          rest = (q.0, q.1);
-          keeps = λ c.
-              ap (kept_of f c) turn.more ∙ rw (q.1, number_is) (one_kept f (selects c v.tracepoint) turn.element _ _ head_bytes_lem);
-        }
-
-pub passed : {f : Format} {b : List ℕ} {at : ℕ} {v : Row} {m : ℕ} → Bytes b → Heads f (drop at b)
+pub passed : {f : Format} {b : List ℕ} {at : ℕ} {v : Row} {m : ℕ} → HeadsFrom f b at
     → accepted (some (v, m)) ≡ step_at head_seen (frame_head f) b at → Passed f b at v m
-passed {f} {b} {at} {v} {m} bs y e = passed_over f b at bs y v m e
-
-pub part-long : {f : Format} {b : List ℕ} {at : ℕ} {v : Row} {m : ℕ} → Passed f b at v m → length (take (m - at) (drop at b)) ≡ m - at
-part-long {b = b} {at = at} {m = m} p = length_part b at (m - at) (omega (arith, p.past, p.inside))
-
-module _ {f : Format} {b : List ℕ} {at : ℕ} {v : Row} {m : ℕ} (p : Passed f b at v m) (c : Selection) where
-  pub kept-yes : selects c v.tracepoint ≡ true → kept f c (drop at b) ≡ take (m - at) (drop at b) ++ kept f c (drop m b)
-  kept-yes e = p.keeps c ∙ rw e
-
-  pub kept-no : selects c v.tracepoint ≡ false → kept f c (drop at b) ≡ kept f c (drop m b)
-  kept-no e = p.keeps c ∙ rw e
-
-  pub length-yes : selects c v.tracepoint ≡ true → length (kept f c (drop at b)) ≡ (m - at) + length (kept f c (drop m b))
-  length-yes e =
-      ap length (kept-yes e) ∙ length-append (take (m - at) (drop at b)) (kept f c (drop m b))
-      ∙ ap (λ n. n + length (kept f c (drop m b))) (part-long p)
+unfolding kept_frames
+passed {f} {b} {at} {v} {m} h e =
+    let t : Turn head_seen (frame_head f) b at v m = walk_more head_seen (frame_head f) (takes-head f) b at v m (sym e) in
+    let w : put_data f t.element ++ drop m b ≡ drop at b =
+    ((exact_head f).forth (drop at b) t.element (drop m b) (bytes_drop at b (bytes-all b h.0)) t.read).1 in
+    let n : length (put_data f t.element) ≡ m - at =
+    omega (arith, ap length w, length-append (put_data f t.element) (drop m b), length-drop m b, length-drop at b, t.later, t.within) in
+    let bytes : put_data f t.element ≡ take (m - at) (drop at b) =
+    sym (ap (take (m - at)) (sym w) ∙ take_at (put_data f t.element) (drop m b) (m - at) n) in
+    let number : t.element.0 ≡ v.tracepoint = ap (λ (r : Row). r.tracepoint) t.shown in
+    let others : Answer (List (ℕ × List ℕ)) = to_end (frame_head f) (drop m b) in
+    let rest : was_accepted others ≡ true = one_more others t.element (ap was_accepted (sym t.more) ∙ h.2) in
+    record {
+      past = t.later;
+      onward = (h.0, t.within, rest);
+      yes = λ c s.
+          ap (kept_frames_of f c) t.more ∙ one_kept f c t.element others rest (ap (selects c) number ∙ s) ∙ ap (λ x. x ∷ kept_frames_of f c others) bytes;
+      no = λ c s. ap (kept_frames_of f c) t.more ∙ none_kept f c t.element others (ap (selects c) number ∙ s);
+    }

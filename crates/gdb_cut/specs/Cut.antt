@@ -1,14 +1,12 @@
--- A cut: on traces, and the bytes that it gives of a file; and what the answer of a cut or a join means.
+-- A cut: on traces, and the bytes that it gives of a file.
 -- Assumes nothing: these are definitions.
 use Rattle.std.specs.Prelude.{Bool, cond, ℕ, List, [], ◌∷◌}
-use Rattle.fields.specs.Answer.{Answer, accepted, refused, next}
+use Rattle.fields.specs.Answer.{Answer, accepted, next}
 use Rattle.gdb_format.specs.Trace.{Frame, Trace, with_frames, encode}
 use Rattle.gdb_format.specs.Decode.{read}
 use Rattle.gdb_format.specs.declared.Settings.{Settings}
 use Rattle.gdb_select.specs.Selection.{Selection, selects, selection_of}
 use Rattle.gdb_select.specs.declared.Selection as lent
-use Rattle.gdb_cut.specs.declared.EditAnswer.{EditAnswer}
-use Rattle.gdb_cut.specs.declared.EditAnswer.TheVariants.{Written, Refused}
 
 -- ---- traces
 
@@ -28,8 +26,3 @@ cut c t = with_frames t (filter (picks c) t.frames)
 unfoldable pub cut_of : Settings → lent.Selection → List ℕ → Answer (List ℕ)
 unfolding encode
 cut_of s sel b = next (selection_of sel) (λ c. next (read s b) (λ r. accepted (encode r.0 (cut c r.1))))
-
--- what `EditAnswer` says
-abbrev pub edit_meaning : EditAnswer → Answer ℕ
-edit_meaning (Written n) = accepted n
-edit_meaning (Refused n) = refused n

@@ -1,36 +1,30 @@
 -- The frames that a cut keeps, as a walk over the heads meets them.
 -- Assumes nothing: these are definitions.
-use Rattle.std.specs.Prelude.{◌≡◌, ℕ, ◌+◌, List, [], ◌++◌, length, take, drop}
-use Rattle.fields.specs.Lists.{concat_map}
+use Rattle.std.specs.Prelude.{◌≡◌, Bool, true, false, ℕ, ◌<◌, ◌≤◌, List, [], length, map, drop, get_or}
 use Rattle.fields.specs.Answer.{Answer, accepted, refused}
 use Rattle.fields.specs.Reader.{to_end}
 use Rattle.gdb_format.specs.Trace.{put_data}
 use Rattle.gdb_format.specs.Decode.{frame_head}
 use Rattle.gdb_format.specs.declared.Format.{Format}
-use Rattle.gdb_select.specs.Selection.{Selection, selects, meaning}
+use Rattle.gdb_select.specs.Selection.{Selection, selects}
 use Rattle.gdb_cut.specs.Cut.{filter}
-use Rattle.gdb_select.specs.declared.Selection as lent
 
--- the bytes of the heads that are kept, with their data
-abbrev pub kept_of : Format → Selection → Answer (List (ℕ × List ℕ)) → List ℕ
-kept_of f c (accepted hs) = concat_map (put_data f) (filter (λ h. selects c h.0) hs)
-kept_of f c (refused n) = []
+-- whether heads with their data fill b
+abbrev pub was_accepted : Answer (List (ℕ × List ℕ)) → Bool
+was_accepted (accepted hs) = true
+was_accepted (refused n) = false
 
-unfoldable pub kept : Format → Selection → List ℕ → List ℕ
-kept f c b = kept_of f c (to_end (frame_head f) b)
+abbrev pub heads_fill : Format → List ℕ → Bool
+heads_fill f b = was_accepted (to_end (frame_head f) b)
 
--- the bytes that the code writes, of a file whose frames start at `start` and fill d from there on
-abbrev pub cut_result : Format → ℕ → List ℕ → lent.Selection → List ℕ
-cut_result f start d c = take start d ++ kept f (meaning c) (drop start d)
+-- b holds bytes, and from `at` on heads with their data fill it
+abbrev pub HeadsFrom : Format → List ℕ → ℕ → Type 0
+HeadsFrom f b at = ((i : ℕ) → get_or b i 0 < 256) × (at ≤ length b) × (heads_fill f (drop at b) ≡ true)
 
-abbrev pub cut_length : Format → ℕ → List ℕ → lent.Selection → ℕ
-cut_length f start d c = start + length (kept f (meaning c) (drop start d))
+-- the heads that are kept, each as its bytes with its data
+abbrev pub kept_frames_of : Format → Selection → Answer (List (ℕ × List ℕ)) → List (List ℕ)
+kept_frames_of f c (accepted hs) = map (put_data f) (filter (λ h. selects c h.0) hs)
+kept_frames_of f c (refused n) = []
 
--- an output that was written: the cut, and behind it what stood there
-pub record Wrote (f : Format) (start : ℕ) (d : List ℕ) (c : lent.Selection) (before : List ℕ) (r : ℕ) (after : List ℕ) : Type 0 where
-  pub long : r ≡ cut_length f start d c
-  pub bytes : after ≡ cut_result f start d c ++ drop r before
-
--- heads with their data fill b
-abbrev pub Heads : Format → List ℕ → Type 0
-Heads f b = (hs : List (ℕ × List ℕ)) × (to_end (frame_head f) b ≡ accepted hs)
+unfoldable pub kept_frames : Format → Selection → List ℕ → List (List ℕ)
+kept_frames f c b = kept_frames_of f c (to_end (frame_head f) b)

@@ -1,4 +1,5 @@
 pub mod Cut
 pub mod Kept
+pub mod Left
 pub mod CutLaws
 pub mod Numbers

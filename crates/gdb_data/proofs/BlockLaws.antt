@@ -19,7 +19,7 @@ use Rattle.fields.specs.Signed.{signed64}
 use Rattle.fields.specs.Answer.{Answer, accepted, refused, never, accepted_inj, next, next_inv}
 use Rattle.fields.specs.Reader.{Reader, ◌>>=◌, give, refuse, bytes, step_at, seen_to, pass_at}
 use Rattle.fields.specs.Takes.{bytes_inv}
-use Rattle.fields.specs.At.{bytes-short, bytes-at, nums_short, nums_at, place_of}
+use Rattle.fields.specs.At.{bytes-short, bytes-at, nums_short, nums_at}
 use Rattle.fields.specs.At.{step_fault, step_read}
 use Rattle.fields.specs.Got.{took, not_read, shown_of}
 use Rattle.fields.specs.Given.{at_case}
@@ -58,12 +58,6 @@ variable_rest n v = give (trace.variable n (signed64 v))
 module _ (d : List ℕ) (at : ℕ) (h : at ≤ length d) where
   abbrev Ends : {A : Type 0} → Reader A → Ending → Type 0
   Ends p x = x ≡ pass_at p d at
-
-  pub bytes_past : (n : ℕ) → length d - at < n → Ends (bytes n block_past_data) (refused block_past_data)
-  bytes_past n l = rw (bytes-short d at n block_past_data l)
-
-  pub bytes-here : (n : ℕ) → n ≤ length d - at → Ends (bytes n block_past_data) (accepted (tt, at + n))
-  bytes-here n l = rw (bytes-at d at n block_past_data h l, place_of d (at + n) (omega arith))
 
   -- n bytes behind k that are there, counted together
   bytes_with : (k n : ℕ) → k ≤ length d - at → {x : Ending} → Ends (bytes (k + n) block_past_data) x → x ≡ pass_at (bytes n block_past_data) d (at + k)

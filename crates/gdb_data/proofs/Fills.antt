@@ -19,8 +19,7 @@ use Rattle.gdb_format.specs.Decode.{block_after, seen_after}
 use Rattle.gdb_format.specs.ExactBlock.{shorter-block-after}
 use Rattle.gdb_format.specs.declared.Format.{Format}
 use Rattle.gdb_data.specs.Blocks.{Carried, registers, memory, variable, carried_by, kind_at, blocks_fill, NoOther}
-use Rattle.std.specs.Prelude.{Some, None, Result, Ok, Err}
-use Rattle.std.specs.Prelude.{Option as Optional}
+use Rattle.std.specs.Prelude.{Result, Ok, Err}
 use Rattle.refusals.specs.Number.{number}
 use Rattle.refusals.specs.declared.Refusal.{Refusal}
 use Rattle.gdb_data.proofs.BlockLaws.{Ended, block_refused, block_read, registers-read}

@@ -1,8 +1,7 @@
 -- The R line's digits, one by one: what the loop knows, each test of the code, and what the definitions then give.
 -- Assumes nothing.
-use mathlib.Core.Path.{◌≡◌, refl, ◌∙◌}
-use mathlib.Core.Bool.{and-false}
-use mathlib.Core.Option.{Option, none, some}
+use mathlib.Core.Path.{◌≡◌, ◌∙◌}
+use mathlib.Core.Option.{none}
 use Prim.Native.Nat.{ℕ, suc, ◌+◌, ◌-◌, ◌*◌, ◌^◌, ◌<◌, ◌≤◌}
 use native.Mathlib.Decide.{dec_le}
 use mathlib.Core.Logic.{by_cases}
@@ -12,9 +11,8 @@ use Rattle.gdb_format.specs.Opening.{below}
 use native.Mathlib.Nat.{lt_of_not-le, pow-suc, pow-le-pow_right, mul-le-mul_left}
 use native.Mathlib.Omega.{arith}
 use mathlib.Core.List.{List}
-use lib.ListN.{length, take, drop, get_or, length-drop, drop_of_length-le}
+use lib.ListN.{length, take, drop, get_or, length-drop}
 use Rattle.std.proofs.lemmas.List.{get_or-take, get_or-drop}
-use lib.Dec.{leb}
 use borrow.Author.Tests.{le-leb, lt-leb}
 use Rattle.fields.specs.Lists.{clash, drop-one}
 use Rattle.gdb_format.specs.Settings.{radix}
@@ -97,19 +95,3 @@ module _ {f : Format} {base most : ℕ} (g : BaseOf f base most) {l : List ℕ} 
 
   pub no_digit : k < length l → base ≤ value → none ≡ size_of f l
   no_digit h i = rw (size-form, drop-one l k h, le-leb base value i)
-
-  pub size-some : length l ≤ k → v ≤ 65535 → some v ≡ size_of f l
-  size-some h e = rw (size-form, drop_of_length-le l h, le-leb v 65535 e)
-
-  pub size-over : length l ≤ k → 65535 < v → none ≡ size_of f l
-  size-over h e = rw (size-form, drop_of_length-le l h, lt-leb v 65535 e)
-
--- ---- too few digits, or too many
-
-module _ (f : Format) (l : List ℕ) where
-  pub size-short : length l < 3 → none ≡ size_of f l
-  size-short h = rw (lt-leb 1 (length (drop 2 l)) (omega (arith, length-drop 2 l)))
-
-  pub size-long : {base most : ℕ} → BaseOf f base most → most < length l - 2 → none ≡ size_of f l
-  size-long {most = most} g h =
-      rw (← g.digits, lt-leb (length (drop 2 l)) most (omega (arith, length-drop 2 l)), and-false (leb 1 (length (drop 2 l))))

@@ -1,10 +1,11 @@
 -- What `join_of` gives in each case that the code tells apart, and what an accepted join tells of its two files.
 -- Assumes nothing.
-use Rattle.std.specs.Prelude.{◌≡◌, refl, Bool, true, false, cond, ◌||◌, ℕ, ◌+◌, ◌-◌, ◌*◌, ◌<◌, ◌≤◌, List, ◌++◌, length, take, drop, get_or, leb}
+use Rattle.std.specs.Prelude.{◌≡◌, refl, Bool, true, false, cond, ◌||◌, ℕ, ◌+◌, ◌-◌, ◌*◌, ◌<◌, ◌≤◌, List, ◌++◌, length, take, drop, get_or, leb, Result, Ok}
 use Rattle.std.proofs.Math.Path.{sym, ap, ap₂}
 use Rattle.std.proofs.Common.{◌∙◌, subst, arith, append_assoc, Fits, le-leb, leb-true}
 use Rattle.std.specs.Int.{w8}
 use Rattle.std.proofs.lemmas.Bool.{lt-leb}
+use Rattle.refusals.specs.declared.Refusal.{Refusal}
 use Rattle.refusals.specs.Refusal.{limit, too_long, openings_differ}
 use Rattle.fields.specs.Lists.{concat_map, concat_map-append}
 use Rattle.fields.specs.Given.{bytes-given, at_case}
@@ -18,13 +19,11 @@ use Rattle.gdb_format.specs.Exactness.{read_exactness}
 use Rattle.gdb_format.specs.declared.Settings.{Settings}
 use Rattle.gdb_format.specs.declared.Format.{Format}
 use Rattle.gdb_read.specs.Steps.{length-encode, Summary, summary_of, read_seen, opened_meaning}
-use Rattle.gdb_read.specs.declared.Opened.{Opened}
 use Rattle.gdb_frames.specs.File.{File, WasRead, file_of_lem, frames-front, frames-part, frames_last, start-within, opening-front, summary_inv}
 use Rattle.gdb_join.specs.Join.{join, within_limit, join_of}
 use Rattle.gdb_join.specs.JoinTraces.{length-join}
 use Rattle.gdb_join.specs.Joined.{pair_seen, pair_meaning}
 use Rattle.gdb_join.specs.declared.Pair.{Pair}
-use Rattle.gdb_join.specs.declared.Pair.TheVariants as pair
 
 -- ---- refusals of the files
 
@@ -201,9 +200,9 @@ pair-refused s a b n ha hb e = by (join_of s a b) refl
     by (refused k) g = ap refused (refused-one (pair_of_refused s a b k g ∙ sym e))
 
 -- as a place of a proof hands it over: the lent bytes, the case that the answer is, and what its contract says
-pub refused-given : (s : Settings) (a b : List ℕ) {n : ℕ} {r : Pair} → ((i : ℕ) → Fits w8 (get_or a i 0)) → ((i : ℕ) → Fits w8 (get_or b i 0))
-    → r ≡ pair.Refused n → pair_meaning r ≡ pair_seen s a b → join_of s a b ≡ refused n
-refused-given s a b {n} f h e k = pair-refused s a b n (bytes-given a f) (bytes-given b h) (at_case pair_meaning e k)
+pub refused-given : (s : Settings) (a b : List ℕ) (n : ℕ) → ((i : ℕ) → Fits w8 (get_or a i 0)) → ((i : ℕ) → Fits w8 (get_or b i 0))
+    → refused n ≡ pair_seen s a b → join_of s a b ≡ refused n
+refused-given s a b n f h e = pair-refused s a b n (bytes-given a f) (bytes-given b h) e
 
 -- two files whose pair is sound, with what each reading told
 pub record Paired (s : Settings) (a b : List ℕ) (m k : Summary) : Type 0 where
@@ -211,8 +210,9 @@ pub record Paired (s : Settings) (a b : List ℕ) (m k : Summary) : Type 0 where
   pub second-bytes : Bytes b
   pub seen : accepted (m, k) ≡ pair_seen s a b
 
-pub paired_given : {s : Settings} {a b : List ℕ} {x y : Opened} {r : Pair} → ((i : ℕ) → Fits w8 (get_or a i 0)) → ((i : ℕ) → Fits w8 (get_or b i 0))
-    → r ≡ pair.Sound x y → pair_meaning r ≡ pair_seen s a b → Paired s a b (opened_meaning x) (opened_meaning y)
+pub paired_given : {s : Settings} {a b : List ℕ} {p : Pair} {r : Result Pair Refusal} → ((i : ℕ) → Fits w8 (get_or a i 0))
+    → ((i : ℕ) → Fits w8 (get_or b i 0)) → r ≡ Ok p → pair_meaning r ≡ pair_seen s a b
+    → Paired s a b (opened_meaning p.first) (opened_meaning p.second)
 paired_given {a = a} {b = b} f h e k = record { first-bytes = bytes-given a f; second-bytes = bytes-given b h; seen = at_case pair_meaning e k }
 
 -- the join is the first file's frames behind its opening, the second's frames, and the mark of either

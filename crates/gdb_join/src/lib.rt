@@ -3,68 +3,60 @@
 
 ghost use Rattle.std.specs.Prelude.{◌≡◌, ◌||◌, ◌++◌, ◌+◌, ◌≤◌, length};
 ghost use Rattle.fields.specs.Copies.{Overwritten};
+ghost use Rattle.fields.specs.Meaning.{answer_of};
 ghost use Rattle.fields.specs.Output.{Lent};
 ghost use Rattle.gdb_format.specs.Trace.{put_mark};
-ghost use Rattle.gdb_cut.specs.Cut.{edit_meaning};
 ghost use Rattle.gdb_join.specs.Join.{join_of};
 ghost use Rattle.gdb_join.specs.JoinLaws.{joined_length, Countable};
 ghost use Rattle.gdb_join.specs.Joined.{pair_meaning, pair_seen};
 ghost use Rattle.gdb_read.specs.Steps.{opened_meaning};
 
-use gdb_cut::EditAnswer;
 use gdb_format::Settings;
-use gdb_read::{Opened, Reading};
-use refusals::{LIMIT, NO_ROOM, OPENINGS_DIFFER, TOO_LONG};
+use gdb_read::Opened;
+use refusals::{LIMIT, Refusal};
 
-// Two traces that can be joined, each as it was read; or the join's refusal.
-#[derive(Clone, Copy)]
-pub enum Pair {
-    Sound { first: Opened, second: Opened },
-    Refused(u8),
+// Two traces that can be joined, each as it was read.
+#[derive(Clone, Copy, Debug, PartialEq, Eq)]
+pub struct Pair {
+    pub first: Opened,
+    pub second: Opened,
 }
 
-// Whether a join has the end mark: if either trace has.
-fn is_marked(first: Opened, second: Opened) -> bool
-    ensures { result ≡ first.marked || second.marked }
-{
-    if first.marked {
-        return true;
+impl Pair {
+    // Whether the join has the end mark: if either trace has.
+    fn is_marked(self) -> bool
+        ensures { result ≡ self.first.marked || self.second.marked }
+    {
+        self.first.marked || self.second.marked
     }
-    second.marked
+
+    // How long the join is: the mark counts once.
+    fn joined_length(self) -> usize
+        requires { Countable (opened_meaning self.first) (opened_meaning self.second) }
+        ensures { result ≡ joined_length (opened_meaning self.first) (opened_meaning self.second) }
+    {
+        let frames = self.second.end - self.second.start;
+        self.first.end + frames + gdb_read::mark_length(self.is_marked())
+    }
 }
 
-// How long a join is: the mark counts once.
-fn joined_length(first: Opened, second: Opened) -> usize
-    requires { Countable (opened_meaning first) (opened_meaning second) }
-    ensures { result ≡ joined_length (opened_meaning first) (opened_meaning second) }
-{
-    let frames = second.end - second.start;
-    first.end + frames + gdb_read::mark_length(is_marked(first, second))
-}
-
-pub fn joinable(settings: Settings, first: &[u8], second: &[u8]) -> Pair
+// The two as they were read, or the join's refusal.
+pub fn joinable(settings: Settings, first: &[u8], second: &[u8]) -> Result<Pair, Refusal>
     ensures { pair_meaning result ≡ pair_seen settings first.now second.now }
 {
-    match gdb_read::read(settings, first) {
-        Reading::Refused(n) => Pair::Refused(n),
-        Reading::Accepted(a) => match gdb_read::read(settings, second) {
-            Reading::Refused(n) => Pair::Refused(n),
-            Reading::Accepted(b) => {
-                let i = a.start;
-                let j = b.start;
-                if !byte_runs::same(&first[..i], &second[..j]) {
-                    return Pair::Refused(OPENINGS_DIFFER);
-                }
-                if LIMIT < joined_length(a, b) {
-                    return Pair::Refused(TOO_LONG);
-                }
-                Pair::Sound {
-                    first: a,
-                    second: b,
-                }
-            }
-        },
+    let a = gdb_read::read(settings, first)?;
+    let b = gdb_read::read(settings, second)?;
+    if !byte_runs::same(&first[..a.start], &second[..b.start]) {
+        return Err(Refusal::OpeningsDiffer);
     }
+    let pair = Pair {
+        first: a,
+        second: b,
+    };
+    if LIMIT < pair.joined_length() {
+        return Err(Refusal::TooLong);
+    }
+    Ok(pair)
 }
 
 // Writes the end mark, if there is to be one.
@@ -89,23 +81,20 @@ fn write_join(first: &[u8], second: &[u8], marked: bool, out: &mut [u8]) -> usiz
 }
 
 // The common opening, the first trace's frames and the second's, and one end mark if either has one.
-pub fn join(settings: Settings, first: &[u8], second: &[u8], out: &mut [u8]) -> EditAnswer
-    ensures { Lent (join_of settings first.now second.now) out.old (edit_meaning result) out.new }
+pub fn join(
+    settings: Settings,
+    first: &[u8],
+    second: &[u8],
+    out: &mut [u8],
+) -> Result<usize, Refusal>
+    ensures { Lent (join_of settings first.now second.now) out.old (answer_of result) out.new }
 {
-    match joinable(settings, first, second) {
-        Pair::Refused(n) => EditAnswer::Refused(n),
-        Pair::Sound {
-            first: a,
-            second: b,
-        } => {
-            if out.len() < joined_length(a, b) {
-                return EditAnswer::Refused(NO_ROOM);
-            }
-            let body = a.end;
-            let start = b.start;
-            let end = b.end;
-            let marked = is_marked(a, b);
-            EditAnswer::Written(write_join(&first[..body], &second[start..end], marked, out))
-        }
+    let pair = joinable(settings, first, second)?;
+    if out.len() < pair.joined_length() {
+        return Err(Refusal::NoRoom);
     }
+    let body = &first[..pair.first.end];
+    let frames = &second[pair.second.start..pair.second.end];
+    let marked = pair.is_marked();
+    Ok(write_join(body, frames, marked, out))
 }

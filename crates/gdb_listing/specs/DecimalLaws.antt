@@ -1,11 +1,12 @@
 -- Decimal digits: one more digit at the end, how many there are, and how they are written.
 -- Assumes nothing.
-use Rattle.std.specs.Prelude.{◌≡◌, refl, ℕ, zero, suc, ◌+◌, ◌/◌, ◌%◌, ◌^◌, ◌<◌, ◌≤◌, List, [], ◌∷◌, ◌++◌, length}
+use Rattle.std.specs.Prelude.{◌≡◌, refl, ℕ, zero, suc, ◌+◌, ◌*◌, ◌/◌, ◌%◌, ◌^◌, ◌<◌, ◌≤◌, max, [], ◌∷◌, ◌++◌, length}
 use Rattle.std.proofs.Common.{ap, ⊎_elim, mod-eq_of_lt, div-lt_iff_lt-mul, pow-suc, zero-lt-suc, eq-zero-or-pos, arith, length-append}
-use Rattle.std.proofs.Math.Nat.{div-eq_of_lt, div-lt_self}
+use Rattle.std.proofs.Math.Nat.{div-eq_of_lt, div-lt_self, max-eq_left}
 use Rattle.gdb_read.specs.Steps.{Row}
 use Rattle.gdb_listing.specs.Text.{digits_f, decimal, ended, line_of}
-use Rattle.gdb_listing.specs.Written.{Puts, puts_then}
+use Rattle.gdb_listing.specs.Written.{Wrote, wrote_then}
+use Rattle.gdb_listing.specs.declared.Writer.{Writer}
 
 pub digits-count : (k j n : ℕ) → n ≤ k → n ≤ j → digits_f k n ≡ digits_f j n
 digits-count zero zero n h i = refl
@@ -58,12 +59,27 @@ decimal-long (suc k) n h =
 pub decimal-word : (n : ℕ) → n < 2 ^ 64 → length (decimal n) ≤ 20
 decimal-word n h = decimal-long 19 n (omega arith)
 
--- one digit counted, and the others
-pub decimal-count : (n len total : ℕ) → 10 ≤ n → len + length (decimal n) ≡ total → len + 1 + length (decimal (n / 10)) ≡ total
-decimal-count n len total h e = omega (arith, ap length (decimal_more n h), length-append (decimal (n / 10)) ((0x30 + n % 10) ∷ []), e)
+ten_above : (k : ℕ) → 0 < 10 ^ k
+ten_above zero = omega arith
+ten_above (suc k) = omega (arith, pow-suc 10 k, ten_above k)
 
-pub decimal_last : (n len total : ℕ) → n < 10 → len + length (decimal n) ≡ total → len + 1 ≡ total
-decimal_last n len total h e = omega (arith, ap length (decimal-one n h), e)
+-- a number from 10 ^ k to below 10 ^ (k + 1) has k + 1 digits
+decimal-digits : (k n : ℕ) → 10 ^ k ≤ n → n < 10 ^ suc k → length (decimal n) ≡ suc k
+decimal-digits zero n h i = ap length (decimal-one n i)
+decimal-digits (suc k) n h i =
+    let p : 0 < 10 ^ k = ten_above k in
+    let e : 10 ^ suc k ≡ 10 ^ k * 10 = pow-suc 10 k in
+    let g : 10 ^ suc (suc k) ≡ 10 ^ suc k * 10 = pow-suc 10 (suc k) in
+    let d = decimal-digits k (n / 10) (omega (arith, e, h)) (omega (arith, g, i)) in
+    omega (arith, d, ap length (decimal_more n (omega (arith, e, h, p))), length-append (decimal (n / 10)) ((0x30 + n % 10) ∷ []))
+
+-- by the logarithm, which 0 has none of
+pub digits-log : (k n m : ℕ) → m ≡ max n 1 → 10 ^ k ≤ m → m < 10 * 10 ^ k → k + 1 ≡ length (decimal n)
+digits-log zero zero m e h i = omega (arith, ap length (decimal-one 0 (omega arith)))
+digits-log (suc k) zero m e h i = let o : max 0 1 ≡ 1 = refl in absurd (omega (arith, e, o, h, pow-suc 10 k, ten_above k))
+digits-log k (suc j) m e h i =
+    let o : max (suc j) 1 ≡ suc j = max-eq_left (omega arith) in
+    omega (arith, decimal-digits k (suc j) (omega (arith, e, o, h)) (omega (arith, e, o, i, pow-suc 10 k)))
 
 -- ---- a number written, digit by digit
 
@@ -74,12 +90,11 @@ module _ (at n size : ℕ) (h : at + length (decimal n) ≤ size) where
   pub more_room : 10 ≤ n → at + length (decimal (n / 10)) < size
   more_room l = omega (arith, ap length (decimal_more n l), length-append (decimal (n / 10)) ((0x30 + n % 10) ∷ []))
 
-pub puts_one : {out after : List ℕ} {at n d r : ℕ} → n < 10 → d ≡ 0x30 + n → Puts out at (d ∷ []) r after → Puts out at (decimal n) r after
-puts_one {out} {after} {at} {n} h e p = rw (decimal-one n h, ← e) p
+pub wrote_one : {a b : Writer} {n : ℕ} → n < 10 → Wrote a ((0x30 + n % 10) ∷ []) b → Wrote a (decimal n) b
+wrote_one {a} {b} {n} h p = let m : n % 10 ≡ n = mod-eq_of_lt h in rw (decimal-one n h) (rw m at p)
 
-pub puts_more : {out middle after : List ℕ} {at m n d r : ℕ} → 10 ≤ n → d ≡ 0x30 + n % 10
-    → Puts out at (decimal (n / 10)) m middle → Puts middle m (d ∷ []) r after → Puts out at (decimal n) r after
-puts_more {out} {middle} {after} {at} {m} {n} h e p q = rw (decimal_more n h, ← e) (puts_then p q)
+pub wrote_more : {a m b : Writer} {n : ℕ} → 10 ≤ n → Wrote a (decimal (n / 10)) m → Wrote m ((0x30 + n % 10) ∷ []) b → Wrote a (decimal n) b
+wrote_more {n = n} h p q = rw (decimal_more n h) (wrote_then p q)
 
 -- ---- a line
 
@@ -87,10 +102,9 @@ pub ended-length : (n b : ℕ) → length (ended n b) ≡ length (decimal n) + 1
 unfolding ended
 ended-length n b = length-append (decimal n) (b ∷ [])
 
-pub puts_ended : {out middle after : List ℕ} {at m r : ℕ} (n b : ℕ) → Puts out at (decimal n) m middle → Puts middle m (b ∷ []) r after
-    → Puts out at (ended n b) r after
+pub wrote_ended : {a m b : Writer} (n e : ℕ) → Wrote a (decimal n) m → Wrote m (e ∷ []) b → Wrote a (ended n e) b
 unfolding ended
-puts_ended n b p q = puts_then p q
+wrote_ended n e p q = wrote_then p q
 
 pub line-length : (r : Row) → length (line_of r) ≡ length (ended r.tracepoint 0x20) + length (ended r.place 0x20) + length (ended r.size 0x0A)
 unfolding line_of
@@ -103,11 +117,10 @@ line-length r =
 pub line-digits : (r : Row) → length (line_of r) ≡ length (decimal r.tracepoint) + length (decimal r.place) + length (decimal r.size) + 3
 line-digits r = omega (arith, line-length r, ended-length r.tracepoint 0x20, ended-length r.place 0x20, ended-length r.size 0x0A)
 
-pub puts_line : {out one two after : List ℕ} {at a b e : ℕ} (r : Row) → Puts out at (ended r.tracepoint 0x20) a one
-    → Puts one a (ended r.place 0x20) b two
-    → Puts two b (ended r.size 0x0A) e after → Puts out at (line_of r) e after
+pub wrote_line : {a b c d : Writer} (r : Row) → Wrote a (ended r.tracepoint 0x20) b → Wrote b (ended r.place 0x20) c → Wrote c (ended r.size 0x0A) d
+    → Wrote a (line_of r) d
 unfolding line_of
-puts_line r p q s = puts_then p (puts_then q s)
+wrote_line r p q s = wrote_then p (wrote_then q s)
 
 -- a number below 100,000 has at most five digits
 pub ended-short : (n b : ℕ) → n < 100000 → length (ended n b) ≤ 6

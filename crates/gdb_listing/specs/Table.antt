@@ -25,8 +25,9 @@ use Rattle.gdb_frames.specs.File.{File, file_of_lem, frames_last, asked-refused,
 use Rattle.gdb_frames.specs.Rows.{rows_from, rows_shown, table-long, rows_table}
 use Rattle.gdb_listing.specs.Text.{decimal, ended, line_of, frames_word, refused_word, text, listing_limit, little, whole_table, listed}
 use Rattle.gdb_listing.specs.DecimalLaws.{decimal-long, ended-length, line-short}
-use Rattle.gdb_listing.specs.Written.{Puts, puts_then}
+use Rattle.gdb_listing.specs.Written.{Wrote, wrote_then}
 use Rattle.gdb_listing.specs.Rows.{Listable}
+use Rattle.gdb_listing.specs.declared.Writer.{Writer}
 
 frames-length : (f : Format) (xs : List Frame) → 6 * length xs ≤ length (concat_map (put_frame f) xs)
 frames-length f [] = omega arith
@@ -50,7 +51,7 @@ module _ (f : Format) (b : List ℕ) (t : Trace) (i : File f b t) where
   pub frames-few : 6 * length t.frames ≤ length b
   frames-few = omega (arith, frames-length f t.frames, frames_last f b t i)
 
-  pub listable : length b ≤ listing_limit → Listable f b (length t.frames) (length (opening t.lines))
+  pub listable : length b ≤ listing_limit → Listable (rows_from f b (length t.frames) (length (opening t.lines))) (length t.frames)
   listable h =
       record {
         count = ap length (rows_table f b t i) ∙ table-long f t;
@@ -69,20 +70,16 @@ rows_length rows =
       ended-length (length rows) 0x0A,
     )
 
-pub table-length : (f : Format) (s : List ℕ) (n at : ℕ) → Listable f s n at
-    → length (text (accepted (rows_from f s n at))) ≡ 7 + length (decimal n) + 1 + length (concat_map line_of (rows_from f s n at))
-table-length f s n at i =
-    rows_length (rows_from f s n at) ∙ ap (λ k. 7 + length (decimal k) + 1 + length (concat_map line_of (rows_from f s n at))) i.count
+pub table-length : (rows : List Row) (n : ℕ) → Listable rows n → length (text (accepted rows)) ≡ 7 + length (decimal n) + 1 + length (concat_map line_of rows)
+table-length rows n i = rows_length rows ∙ ap (λ k. 7 + length (decimal k) + 1 + length (concat_map line_of rows)) i.count
 
 pub refusal_length : (n : ℕ) → length (text (refused n)) ≡ 8 + length (decimal n) + 1
 refusal_length n = omega (arith, length-append refused_word (ended n 0x0A), ended-length n 0x0A)
 
 -- the words and the lines, one after another
-pub puts_table : {out one two after : List ℕ} {a b r : ℕ} (f : Format) (s : List ℕ) (n at : ℕ) → Listable f s n at
-    → Puts out 0 frames_word a one → Puts one a (ended n 0x0A) b two → Puts two b (concat_map line_of (rows_from f s n at)) r after
-    → Puts out 0 (text (accepted (rows_from f s n at))) r after
-puts_table {out} {one} {two} {after} {a} {b} f s n at i p q r =
-    puts_then p (puts_then (subst (λ k. Puts one a (ended k 0x0A) b two) (sym i.count) q) r)
+pub wrote_table : {a b c d : Writer} (rows : List Row) (n : ℕ) → Listable rows n
+    → Wrote a frames_word b → Wrote b (ended n 0x0A) c → Wrote c (concat_map line_of rows) d → Wrote a (text (accepted rows)) d
+wrote_table {b = b} {c = c} rows n i p q r = wrote_then p (wrote_then (subst (λ k. Wrote b (ended k 0x0A) c) (sym i.count) q) r)
 
 -- ---- what is listed
 
@@ -105,8 +102,8 @@ module _ (b : List ℕ) (h : length b ≤ listing_limit) where
         (λ f t r i. ap accepted (rows_table f b t i) ∙ rw r)
         ∙ sym listed-asked
 
-    pub listed-listable : Listable m.format b m.frames m.start
-    listed-listable = told little b g m e (λ m. Listable m.format b m.frames m.start) (λ f t r i. listable f b t i h)
+    pub listed-listable : Listable (rows_from m.format b m.frames m.start) m.frames
+    listed-listable = told little b g m e (λ m. Listable (rows_from m.format b m.frames m.start) m.frames) (λ f t r i. listable f b t i h)
 
 -- 196,626 bytes have room for every listing: a frame takes at least 6 bytes of the file, so its line at most 3 for each of them
 -- a refusal's number has one digit or two
@@ -117,7 +114,7 @@ rows_short : (f : Format) (b : List ℕ) (t : Trace) → length b ≤ listing_li
 rows_short f b t h i =
     let l = listable f b t i h in
     let e = rows_table f b t i in
-    let k = table-length f b (length t.frames) (length (opening t.lines)) l in
+    let k = table-length _ (length t.frames) l in
     let few = frames-few f b t i in
     subst (λ rows. length (text (accepted rows)) ≤ 196626) e (omega (arith, k, l.short, few, decimal-long 4 (length t.frames) (omega arith)))
 

@@ -1,7 +1,7 @@
--- The listing of a trace as text, and what the listing's answer means.
+-- The listing of a trace as text.
 -- Assumes nothing: these are definitions.
 use Rattle.std.specs.Prelude.{cond, ℕ, zero, suc, ◌+◌, ◌/◌, ◌%◌, List, [], ◌∷◌, ◌++◌, length, ltb}
-use Rattle.refusals.specs.Refusal.{too_long, no_room}
+use Rattle.refusals.specs.Refusal.{too_long}
 use Rattle.fields.specs.Lists.{concat_map}
 use Rattle.fields.specs.Answer.{Answer, accepted, refused}
 use Rattle.gdb_format.specs.Trace.{Trace}
@@ -10,8 +10,6 @@ use Rattle.gdb_format.specs.Settings.{default_settings}
 use Rattle.gdb_format.specs.declared.Settings.{Settings}
 use Rattle.gdb_read.specs.Steps.{Row}
 use Rattle.gdb_frames.specs.Questions.{asked, table}
-use Rattle.gdb_listing.specs.declared.ListingAnswer.{ListingAnswer}
-use Rattle.gdb_listing.specs.declared.ListingAnswer.TheVariants.{Written, NoRoom}
 
 -- ---- the text
 
@@ -66,8 +64,3 @@ listed b = cond (ltb listing_limit (length b)) (refused too_long) (asked little 
 -- the listing of a file: always a text
 abbrev pub listing_of : List ℕ → Answer (List ℕ)
 listing_of b = accepted (text (listed b))
-
--- what `ListingAnswer` says: how long the text is, or 11
-abbrev pub listing_meaning : ListingAnswer → Answer ℕ
-listing_meaning (Written n) = accepted n
-listing_meaning NoRoom = refused no_room

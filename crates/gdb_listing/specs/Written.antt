@@ -1,6 +1,6 @@
 -- Bytes written at a place of an output, the rest of which stays as it was.
 -- Assumes nothing.
-use Rattle.std.specs.Prelude.{◌≡◌, refl, ℕ, ◌+◌, ◌<◌, ◌≤◌, set}
+use Rattle.std.specs.Prelude.{◌≡◌, refl, ℕ, ◌+◌, ◌-◌, ◌<◌, ◌≤◌, set}
 use Rattle.std.proofs.Common.{sym, ◌∙◌, add-one, take-append-drop, take_at, drop_at}
 use Rattle.std.proofs.Math.Path.{ap, ap₂}
 use native.Mathlib.Omega.{arith}
@@ -8,6 +8,7 @@ use mathlib.Core.List.{List, [], ◌∷◌, ◌++◌, append_assoc}
 use Rattle.std.proofs.Math.ListN.{length, take, drop, length-append, length-drop}
 use Rattle.std.proofs.lemmas.List.{set_split}
 use Rattle.std.proofs.Math.Seq.{drop-drop, length-take-le}
+use Rattle.gdb_listing.specs.declared.Writer.{Writer}
 
 unfoldable pub written : List ℕ → ℕ → List ℕ → List ℕ
 written out at w = take at out ++ (w ++ drop (at + length w) out)
@@ -17,6 +18,14 @@ pub record Puts (before : List ℕ) (at : ℕ) (w : List ℕ) (r : ℕ) (after :
   pub room : at + length w ≤ length before
   pub ends : r ≡ at + length w
   pub bytes : after ≡ written before at w
+
+-- the same of a writer: there is room for w, and it has written w behind what was written, in the output that it was lent
+abbrev pub HasRoom : Writer → List ℕ → Type 0
+HasRoom t w = t.at + length w ≤ length t.out.now
+
+pub record Wrote (before : Writer) (w : List ℕ) (after : Writer) : Type 0 where
+  pub puts : Puts before.out.now before.at w after.at after.out.now
+  pub lent : after.out.ghost_name ≡ before.out.ghost_name
 
 module _ (out : List ℕ) (at : ℕ) (v : List ℕ) (h : at + length v ≤ length out) where
   front_long : length (take at out ++ v) ≡ at + length v
@@ -65,6 +74,13 @@ puts_then {before} {middle} {after} {v} {w} {at} {m} p q =
       bytes = q.bytes ∙ ap₂ (λ x n. written x n w) p.bytes p.ends ∙ written_twice before at v p.room w;
     }
 
+pub wrote_then : {a b c : Writer} {v w : List ℕ} → Wrote a v b → Wrote b w c → Wrote a (v ++ w) c
+wrote_then p q = record { puts = puts_then p.puts q.puts; lent = q.lent ∙ p.lent }
+
+-- where v is written there is as much room less
+pub room_then : {a b : Writer} {v : List ℕ} (w : List ℕ) → Wrote a v b → a.at + length v + length w ≤ length a.out.now → HasRoom b w
+room_then w p h = omega (arith, p.puts.ends, puts_long p.puts, h)
+
 pub puts_byte : (out : List ℕ) (at b : ℕ) → at < length out → Puts out at (b ∷ []) (at + 1) (set out at b)
 unfolding written
 puts_byte out at b h =
@@ -74,13 +90,15 @@ puts_byte out at b h =
       bytes = set_split out at b h ∙ ap (λ n. take at out ++ b ∷ drop n out) (sym (add-one at));
     }
 
--- ---- at the front
-
-pub puts_front : (out w after : List ℕ) (r : ℕ) → length w ≤ length out → r ≡ length w → after ≡ w ++ drop (length w) out → Puts out 0 w r after
+-- a word put in the place of as many bytes
+pub puts_word : (out : List ℕ) (at : ℕ) (w v : List ℕ) → at + length w ≤ length out → v ≡ w
+    → Puts out at w (at + length w) (take at out ++ (v ++ drop (at + length w - at) (drop at out)))
 unfolding written
-puts_front out w after r h e f =
-    let z : 0 + length w ≡ length w = omega arith in
-    record { room = omega arith; ends = omega arith; bytes = f ∙ ap (λ n. w ++ drop n out) (sym z) }
+puts_word out at w v h e =
+    let n : at + (at + length w - at) ≡ at + length w = omega arith in
+    record { room = h; ends = refl; bytes = ap₂ (λ x y. take at out ++ (x ++ y)) e (drop-drop (at + length w - at) at out ∙ ap (λ k. drop k out) n) }
+
+-- ---- at the front
 
 pub front_bytes : {out w after : List ℕ} {r : ℕ} → Puts out 0 w r after → after ≡ w ++ drop (length w) out
 unfolding written

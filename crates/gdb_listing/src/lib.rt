@@ -1,212 +1,191 @@
 // A trace listed as text: the number of frames, and a line for each frame; or the refusal.
 #![tactic(auto)]
 
-ghost use Rattle.std.specs.Prelude.{◌≡◌, [], ◌∷◌, ◌+◌, ◌<◌, ◌≤◌, length};
+ghost use Rattle.std.specs.Prelude.{◌≡◌, [], ◌∷◌, ◌≤◌, length};
+ghost use Rattle.refusals.specs.Number.{number};
 ghost use Rattle.fields.specs.Lists.{concat_map};
 ghost use Rattle.fields.specs.Answer.{accepted, refused};
+ghost use Rattle.fields.specs.Meaning.{answer_of};
 ghost use Rattle.fields.specs.Output.{Lent};
 ghost use Rattle.gdb_read.specs.Steps.{head_meaning};
-ghost use Rattle.gdb_frames.specs.Rows.{rows_from};
-ghost use Rattle.gdb_listing.specs.Text.{decimal, ended, line_of, listing_of, listing_meaning};
-ghost use Rattle.gdb_listing.specs.Written.{Puts};
-ghost use Rattle.gdb_listing.specs.Rows.{Listable};
+ghost use Rattle.gdb_listing.specs.Text.{decimal, ended, line_of, listing_of};
+ghost use Rattle.gdb_listing.specs.Written.{HasRoom, Wrote};
+ghost use Rattle.gdb_listing.specs.Rows.{heads_left, Listable};
 ghost use Rattle.gdb_listing.specs.Outcome.{Lists};
 
 use gdb_format::Format;
-use gdb_read::{FrameHead, FrameStep, Reading};
-use refusals::TOO_LONG;
+use gdb_read::FrameHead;
+use refusals::Refusal;
 
 // The longest file that is listed.
 const LIMIT: usize = 65536;
 
-// The number of bytes written, or that the output is too short.
+// The heads of frames, one behind the other: the first stands at `at`, and `left` are asked for.
 #[derive(Clone, Copy)]
-pub enum ListingAnswer {
-    Written(usize),
-    NoRoom,
-}
-
-fn put_byte(out: &mut [u8], at: usize, b: u8) -> usize
-    requires { at < length out.old }
-    ensures { Puts out.old at (b ∷ []) result out.new }
-{
-    out[at] = b;
-    at + 1
-}
-
-fn digit(d: usize) -> u8
-    requires { d < 10 }
-    ensures { result ≡ 48 + d }
-{
-    48 + d as u8
-}
-
-fn put_number(out: &mut [u8], at: usize, n: usize) -> usize
-    requires { at + length (decimal n) ≤ length out.old }
-    ensures { Puts out.old at (decimal n) result out.new }
-{
-    if n < 10 {
-        return put_byte(out, at, digit(n));
-    }
-    let last = put_number(out, at, n / 10);
-    put_byte(out, last, digit(n % 10))
-}
-
-// A number, and the byte that ends it.
-fn put_ended(out: &mut [u8], at: usize, n: usize, end: u8) -> usize
-    requires { at + length (ended n end) ≤ length out.old }
-    ensures { Puts out.old at (ended n end) result out.new }
-{
-    let last = put_number(out, at, n);
-    put_byte(out, last, end)
-}
-
-// A frame's line: number, place, size.
-fn put_line(out: &mut [u8], at: usize, head: FrameHead) -> usize
-    requires { at + length (line_of (head_meaning head)) ≤ length out.old }
-    ensures { Puts out.old at (line_of (head_meaning head)) result out.new }
-{
-    let FrameHead {
-        tracepoint,
-        place,
-        size,
-    } = head;
-    let a = put_ended(out, at, tracepoint as usize, b' ');
-    let b = put_ended(out, a, place, b' ');
-    put_ended(out, b, size, b'\n')
-}
-
-// The lines of `frames` frames, the first of which starts at `start`.
-fn put_lines(
+struct Heads<'a> {
     format: Format,
-    file: &[u8],
-    start: usize,
-    frames: usize,
-    out: &mut [u8],
-    begin: usize,
-) -> usize
-    requires { begin + length (concat_map line_of (rows_from format file.now frames start)) ≤ length out.old }
-    ensures { Puts out.old begin (concat_map line_of (rows_from format file.now frames start)) result out.new }
-{
-    let mut at = start;
-    let mut left = frames;
-    let mut len = begin;
-    while 0 < left {
-        match gdb_read::head_at(format, file, at) {
-            FrameStep::End => {
-                return len;
-            }
-            FrameStep::Refused(_) => {
-                return len;
-            }
-            FrameStep::Frame { head, next } => {
-                len = put_line(out, len, head);
-                at = next;
-                left -= 1;
-            }
+    file: &'a [u8],
+    at: usize,
+    left: usize,
+}
+
+impl<'a> Iterator for Heads<'a> {
+    ghost use Rattle.std.specs.Iterator.{YieldsFirstBy, item_count};
+    ghost use Rattle.gdb_read.specs.Steps.{head_meaning};
+    ghost use Rattle.gdb_listing.specs.Rows.{heads_left};
+
+    type Item = FrameHead;
+
+    ghost next_gives = { YieldsFirstBy head_meaning heads_left };
+
+    ghost remaining = { item_count heads_left };
+
+    fn next(&mut self) -> Option<FrameHead> {
+        if self.left == 0 {
+            return None;
+        }
+        let Ok(Some(step)) = gdb_read::head_at(self.format, self.file, self.at) else {
+            return None;
+        };
+        self.at = step.next;
+        self.left -= 1;
+        Some(step.head)
+    }
+}
+
+// An output, and how much of it is written.
+#[derive(Drop)]
+struct Writer<'a> {
+    out: &'a mut [u8],
+    at: usize,
+}
+
+impl Writer<'_> {
+    fn put_byte(&mut self, b: u8)
+        requires { HasRoom self.old (b ∷ []) }
+        ensures { Wrote self.old (b ∷ []) self.new }
+    {
+        self.out[self.at] = b;
+        self.at += 1;
+    }
+
+    fn put_word(&mut self, word: &[u8])
+        requires { HasRoom self.old word.now }
+        ensures { Wrote self.old word.now self.new }
+    {
+        let end = self.at + word.len();
+        self.out[self.at..end].copy_from_slice(word);
+        self.at = end;
+    }
+
+    fn put_number(&mut self, n: usize)
+        requires { HasRoom self.old (decimal n) }
+        ensures { Wrote self.old (decimal n) self.new }
+    {
+        if 10 <= n {
+            self.put_number(n / 10);
+        }
+        self.put_byte(b'0' + (n % 10) as u8);
+    }
+
+    // A number, and the byte that ends it.
+    fn put_ended(&mut self, n: usize, end: u8)
+        requires { HasRoom self.old (ended n end) }
+        ensures { Wrote self.old (ended n end) self.new }
+    {
+        self.put_number(n);
+        self.put_byte(end);
+    }
+
+    // A frame's line: number, place, size.
+    fn put_line(&mut self, head: FrameHead)
+        requires { HasRoom self.old (line_of (head_meaning head)) }
+        ensures { Wrote self.old (line_of (head_meaning head)) self.new }
+    {
+        self.put_ended(head.tracepoint as usize, b' ');
+        self.put_ended(head.place, b' ');
+        self.put_ended(head.size, b'\n');
+    }
+
+    fn put_lines(&mut self, heads: Heads)
+        requires { HasRoom self.old (concat_map line_of (heads_left heads)) }
+        ensures { Wrote self.old (concat_map line_of (heads_left heads.entry)) self.new }
+    {
+        for head in heads {
+            self.put_line(head);
         }
     }
-    len
 }
 
 // How many digits a number has.
 fn digit_count(n: usize) -> usize
     ensures { (result ≡ length (decimal n)) × (result ≤ 20) }
 {
-    let mut rest = n;
-    let mut count: usize = 0;
-    while 10 <= rest {
-        rest = rest / 10;
-        count += 1;
-    }
-    count + 1
+    n.max(1).ilog10() as usize + 1
 }
 
 // How long a frame's line is: three numbers, each with the byte that ends it.
 fn line_length(head: FrameHead) -> usize
     ensures { result ≡ length (line_of (head_meaning head)) }
 {
-    let FrameHead {
-        tracepoint,
-        place,
-        size,
-    } = head;
-    digit_count(tracepoint as usize) + digit_count(place) + digit_count(size) + 3
+    digit_count(head.tracepoint as usize) + digit_count(head.place) + digit_count(head.size) + 3
 }
 
-// How long the lines of `frames` frames are, the first of which starts at `start`.
-fn lines_length(format: Format, file: &[u8], start: usize, frames: usize) -> usize
-    requires { Listable format file.now frames start }
-    ensures { result ≡ length (concat_map line_of (rows_from format file.now frames start)) }
+fn lines_length(heads: Heads) -> usize
+    requires { Listable (heads_left heads) heads.left }
+    ensures { result ≡ length (concat_map line_of (heads_left heads.entry)) }
 {
-    let mut at = start;
-    let mut rest = frames;
-    let mut len: usize = 0;
-    while 0 < rest {
-        match gdb_read::head_at(format, file, at) {
-            FrameStep::End => {
-                return len;
-            }
-            FrameStep::Refused(_) => {
-                return len;
-            }
-            FrameStep::Frame { head, next } => {
-                len += line_length(head);
-                at = next;
-                rest -= 1;
-            }
-        }
+    let mut len = 0;
+    for head in heads {
+        len += line_length(head);
     }
     len
 }
 
-// A word at the front.
-fn put_front(out: &mut [u8], word: &[u8]) -> usize
-    requires { length word.now ≤ length out.old }
-    ensures { Puts out.old 0 word.now result out.new }
+fn put_refusal(e: Refusal, out: &mut [u8]) -> Result<usize, Refusal>
+    ensures { Lists (refused (number e)) out.old result out.new }
 {
-    let end = word.len();
-    out[..end].copy_from_slice(word);
-    end
-}
-
-fn put_refusal(n: u8, out: &mut [u8]) -> ListingAnswer
-    ensures { Lists (refused n) out.old result out.new }
-{
-    if out.len() < 8 + digit_count(n as usize) + 1 {
-        return ListingAnswer::NoRoom;
+    let n = e.number() as usize;
+    if out.len() < 8 + digit_count(n) + 1 {
+        return Err(Refusal::NoRoom);
     }
-    let a = put_front(out, b"refused ");
-    ListingAnswer::Written(put_ended(out, a, n as usize, b'\n'))
+    let mut text = Writer { out, at: 0 };
+    text.put_word(b"refused ");
+    text.put_ended(n, b'\n');
+    Ok(text.at)
 }
 
-fn put_table(
-    format: Format,
-    file: &[u8],
-    start: usize,
-    frames: usize,
-    out: &mut [u8],
-) -> ListingAnswer
-    requires { Listable format file.now frames start }
-    ensures { Lists (accepted (rows_from format file.now frames start)) out.old result out.new }
+fn put_table(heads: Heads, out: &mut [u8]) -> Result<usize, Refusal>
+    requires { Listable (heads_left heads) heads.left }
+    ensures { Lists (accepted (heads_left heads.entry)) out.old result out.new }
 {
-    if out.len() < 7 + digit_count(frames) + 1 + lines_length(format, file, start, frames) {
-        return ListingAnswer::NoRoom;
+    if out.len() < 7 + digit_count(heads.left) + 1 + lines_length(heads) {
+        return Err(Refusal::NoRoom);
     }
-    let a = put_front(out, b"frames ");
-    let b = put_ended(out, a, frames, b'\n');
-    ListingAnswer::Written(put_lines(format, file, start, frames, out, b))
+    let mut text = Writer { out, at: 0 };
+    text.put_word(b"frames ");
+    text.put_ended(heads.left, b'\n');
+    text.put_lines(heads);
+    Ok(text.at)
 }
 
-// Writes the listing of a little-endian file to the front of `out`.
-pub fn listing(file: &[u8], out: &mut [u8]) -> ListingAnswer
-    ensures { Lent (listing_of file.now) out.old (listing_meaning result) out.new }
+// Writes the listing of a little-endian file to the front of `out`, and tells its length.
+pub fn listing(file: &[u8], out: &mut [u8]) -> Result<usize, Refusal>
+    ensures { Lent (listing_of file.now) out.old (answer_of result) out.new }
 {
     if LIMIT < file.len() {
-        return put_refusal(TOO_LONG, out);
+        return put_refusal(Refusal::TooLong, out);
     }
     match gdb_read::read(gdb_format::default_settings(0), file) {
-        Reading::Refused(n) => put_refusal(n, out),
-        Reading::Accepted(o) => put_table(o.format, file, o.start, o.frames, out),
+        Err(e) => put_refusal(e, out),
+        Ok(opened) => {
+            let heads = Heads {
+                format: opened.layout.format,
+                file,
+                at: opened.start,
+                left: opened.frames,
+            };
+            put_table(heads, out)
+        }
     }
 }

@@ -1,8 +1,10 @@
 -- Frame n of a pair of traces, read as if joined: a part of the first trace or of the second.
 -- Assumes nothing: these are definitions.
-use Rattle.std.specs.Prelude.{◌≡◌, cond, ℕ, ◌-◌, List, [], length, ℤ, ltb}
+use Rattle.std.specs.Prelude.{◌≡◌, cond, ℕ, ◌-◌, List, [], length, ℤ, ltb, Result}
 use Rattle.std.proofs.Math.Option.{Option}
+use Rattle.refusals.specs.declared.Refusal.{Refusal}
 use Rattle.fields.specs.Answer.{Answer, accepted, refused, next}
+use Rattle.fields.specs.Meaning.{answer_by}
 use Rattle.gdb_format.specs.Trace.{Trace}
 use Rattle.gdb_format.specs.Decode.{read}
 use Rattle.gdb_format.specs.declared.Settings.{Settings}
@@ -34,10 +36,12 @@ unfoldable pub pair_place : Settings → List ℕ → List ℕ → ℕ → Answe
 pair_place s a b n = next (join_of s a b) (λ c. next (read s a) (λ p. next (read s b) (λ q. sided p.0 n p.1 q.1)))
 
 -- what `PairPlace` says
-abbrev pub pair_place_meaning : PairPlace → Answer (Side × (ℕ × ℕ))
-pair_place_meaning (pair.First p n) = accepted (first, (p, n))
-pair_place_meaning (pair.Second p n) = accepted (second, (p, n))
-pair_place_meaning (pair.Refused n) = refused n
+abbrev pub side_meaning : PairPlace → Side × (ℕ × ℕ)
+side_meaning (pair.First p) = (first, (p.place, p.length))
+side_meaning (pair.Second p) = (second, (p.place, p.length))
+
+abbrev pub pair_place_meaning : Result PairPlace Refusal → Answer (Side × (ℕ × ℕ))
+pair_place_meaning r = answer_by side_meaning r
 
 -- the part that a place names: empty where it refuses
 abbrev pub side_part : List ℕ → List ℕ → Side → ℕ × ℕ → List ℕ

@@ -2,65 +2,52 @@
 #![tactic(auto)]
 
 ghost use Rattle.std.specs.Prelude.{◌≡◌, take};
+ghost use Rattle.fields.specs.Meaning.{answer_of};
 ghost use Rattle.gdb_frames.specs.Nth.{nth_head};
 ghost use Rattle.gdb_frames.specs.Questions.{place_meaning};
-ghost use Rattle.gdb_blocks.specs.Search.{value_meaning};
 ghost use Rattle.gdb_pair.specs.Pair.{found_place, pair_place, pair_place_meaning, HandedPair, pair_variable};
 
-use gdb_blocks::ValueAnswer;
 use gdb_format::Settings;
-use gdb_frames::PlaceAnswer;
-use gdb_join::Pair;
-use gdb_read::{FrameStep, Opened};
-use refusals::NOT_FOUND;
+use gdb_frames::Part;
+use gdb_read::Opened;
+use refusals::Refusal;
 
 // The data of frame n of a file that was read.
-fn frame_in(o: Opened, file: &[u8], n: usize) -> PlaceAnswer
-    ensures { place_meaning result ≡ found_place (nth_head o.format (take o.end file.now) n o.start) }
+fn frame_in(opened: Opened, file: &[u8], n: usize) -> Result<Part, Refusal>
+    ensures { place_meaning result ≡ found_place (nth_head opened.layout.format (take opened.end file.now) n opened.start) }
 {
-    let format = o.format;
-    match gdb_frames::nth_head(format, gdb_read::front(file, o.end), o.start, n) {
-        FrameStep::End => PlaceAnswer::Refused(NOT_FOUND),
-        FrameStep::Refused(k) => PlaceAnswer::Refused(k),
-        FrameStep::Frame { head, next: _ } => PlaceAnswer::At {
-            place: head.place,
-            length: head.size,
-        },
-    }
+    let frames = gdb_read::front(file, opened.end);
+    let Some(step) = gdb_frames::nth_head(opened.layout.format, frames, opened.start, n)? else {
+        return Err(Refusal::NotFound);
+    };
+    Ok(Part {
+        place: step.head.place,
+        length: step.head.size,
+    })
 }
 
-// Which trace a frame's data stand in, and where; or the refusal.
-#[derive(Clone, Copy)]
+// Which trace a frame's data stand in, and where.
+#[derive(Clone, Copy, Debug, PartialEq, Eq)]
 pub enum PairPlace {
-    First { place: usize, length: usize },
-    Second { place: usize, length: usize },
-    Refused(u8),
+    First(Part),
+    Second(Part),
 }
 
 // Frame n of the two traces, read as if joined.
-pub fn pair_place(settings: Settings, first: &[u8], second: &[u8], n: usize) -> PairPlace
+pub fn pair_place(
+    settings: Settings,
+    first: &[u8],
+    second: &[u8],
+    n: usize,
+) -> Result<PairPlace, Refusal>
     ensures { pair_place_meaning result ≡ pair_place settings first.now second.now n }
 {
-    match gdb_join::joinable(settings, first, second) {
-        Pair::Refused(k) => PairPlace::Refused(k),
-        Pair::Sound {
-            first: a,
-            second: b,
-        } => {
-            let frames = a.frames;
-            if n < frames {
-                match frame_in(a, first, n) {
-                    PlaceAnswer::Refused(k) => PairPlace::Refused(k),
-                    PlaceAnswer::At { place, length } => PairPlace::First { place, length },
-                }
-            } else {
-                match frame_in(b, second, n - frames) {
-                    PlaceAnswer::Refused(k) => PairPlace::Refused(k),
-                    PlaceAnswer::At { place, length } => PairPlace::Second { place, length },
-                }
-            }
-        }
+    let pair = gdb_join::joinable(settings, first, second)?;
+    let frames = pair.first.frames;
+    if n < frames {
+        return Ok(PairPlace::First(frame_in(pair.first, first, n)?));
     }
+    Ok(PairPlace::Second(frame_in(pair.second, second, n - frames)?))
 }
 
 // The data of frame n of the two traces, as that part of the first or of the second.
@@ -68,15 +55,9 @@ pub fn pair_frame<'a>(settings: Settings, first: &'a [u8], second: &'a [u8], n: 
     ensures { HandedPair first.now second.now (pair_place settings first.now second.now n) result.now }
 {
     match pair_place(settings, first, second, n) {
-        PairPlace::Refused(_) => &first[..0],
-        PairPlace::First { place, length } => gdb_frames::part_of(
-            first,
-            PlaceAnswer::At { place, length },
-        ),
-        PairPlace::Second { place, length } => gdb_frames::part_of(
-            second,
-            PlaceAnswer::At { place, length },
-        ),
+        Ok(PairPlace::First(part)) => gdb_frames::part_of(first, Ok(part)),
+        Ok(PairPlace::Second(part)) => gdb_frames::part_of(second, Ok(part)),
+        Err(_) => &first[..0],
     }
 }
 
@@ -87,20 +68,12 @@ pub fn pair_variable(
     second: &[u8],
     n: usize,
     number: u32,
-) -> ValueAnswer
-    ensures { value_meaning result ≡ pair_variable settings first.now second.now n number }
+) -> Result<i64, Refusal>
+    ensures { answer_of result ≡ pair_variable settings first.now second.now n number }
 {
-    match gdb_join::joinable(settings, first, second) {
-        Pair::Refused(k) => ValueAnswer::Refused(k),
-        Pair::Sound {
-            first: a,
-            second: _,
-        } => {
-            let count = a.frames;
-            if n < count {
-                return gdb_blocks::variable(settings, first, n, number);
-            }
-            gdb_blocks::variable(settings, second, n - count, number)
-        }
+    let count = gdb_join::joinable(settings, first, second)?.first.frames;
+    if n < count {
+        return gdb_blocks::variable(settings, first, n, number);
     }
+    gdb_blocks::variable(settings, second, n - count, number)
 }

@@ -4,7 +4,7 @@ use mathlib.Core.Path.{◌≡◌, refl, sym, ap, ◌∙◌}
 use mathlib.Core.Bool.{Bool, true, false}
 use mathlib.Core.Option.{Option, none, some}
 use Prim.Native.Nat.{ℕ, ◌+◌, ◌<◌, ◌≤◌}
-use native.Mathlib.Nat.{zero-add, add-zero}
+use native.Mathlib.Nat.{add-zero}
 use native.Mathlib.Omega.{arith}
 use mathlib.Core.List.{List, [], ◌∷◌}
 use lib.ListN.{length, drop, length-drop, drop_of_length-le}
@@ -22,10 +22,6 @@ use Rattle.gdb_read.specs.Steps.{Row, frame_seen, frames_counted}
 abbrev counted_from : ℕ → Answer (List Frame × Bool) → Answer (ℕ × Bool)
 counted_from n x = next x (λ q. accepted (n + length q.0, q.1))
 
-count_none : (x : Answer (List Frame × Bool)) → counted_from 0 x ≡ next x (λ q. accepted (length q.0, q.1))
-count_none (accepted q) = ap (λ k. accepted (k, q.1)) (zero-add (length q.0))
-count_none (refused n) = refl
-
 count-one : (n : ℕ) (x : Answer (List Frame × Bool)) (r : Frame) → counted_from n (next x (λ q. accepted (r ∷ q.0, q.1))) ≡ counted_from (n + 1) x
 count-one n (accepted q) r = let i : n + length (r ∷ q.0) ≡ n + 1 + length q.0 = omega arith in ap (λ k. accepted (k, q.1)) i
 count-one n (refused k) r = refl
@@ -35,9 +31,6 @@ pub record Counting (f : Format) (size : Option ℕ) (s : List ℕ) (from at n :
   pub inside : at ≤ length s
   pub few : n ≤ at
   pub same : counted_from n (frames f size (drop at s)) ≡ frames_counted f size (drop from s)
-
-pub count-starts : (f : Format) (size : Option ℕ) (s : List ℕ) (from : ℕ) → from ≤ length s → Counting f size s from from 0
-count-starts f size s from h = record { inside = h; few = omega arith; same = count_none (frames f size (drop from s)) }
 
 -- none stand behind the end
 pub count_past : (f : Format) (size : Option ℕ) (s : List ℕ) (from : ℕ) → length s < from → accepted (0, false) ≡ frames_counted f size (drop from s)

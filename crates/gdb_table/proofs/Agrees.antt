@@ -27,7 +27,7 @@ use Rattle.gdb_blocks.specs.Shown.{BytesShown}
 use Rattle.gdb_blocks.proofs.Shown.{registers_stand, registers-said, letter_before}
 use Rattle.gdb_table.specs.declared.FrameRecord.{FrameRecord}
 use Rattle.gdb_table.specs.Records.{record_of, record_at, frame_table}
-use Rattle.gdb_table.specs.Planning.{records-length}
+use Rattle.gdb_table.specs.WalkLaws.{records-length}
 use Rattle.gdb_table.specs.Agrees.{Agrees}
 
 -- a record that was made with the answer

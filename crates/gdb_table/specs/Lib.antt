@@ -1,6 +1,6 @@
 pub mod Records
 pub mod Walk
-pub mod Planning
+pub mod WalkLaws
 pub mod Filling
 pub mod Agrees
 pub mod Numbers

@@ -1,4 +1,4 @@
--- The frame table: its records, and what its answer means. What a lent list of records gets is said in fields/specs/Output.antt.
+-- The frame table, and its records. What a lent list of records gets is said in fields/specs/Output.antt.
 -- Assumes nothing: these are definitions.
 use Rattle.std.specs.Prelude.{ℕ, List, map}
 use Rattle.fields.specs.Answer.{Answer, accepted, refused}
@@ -9,8 +9,6 @@ use Rattle.gdb_frames.specs.Places.{frames_at, blocks_at}
 use Rattle.gdb_blocks.specs.Earliest.{earliest}
 use Rattle.gdb_blocks.specs.Search.{registers_in}
 use Rattle.gdb_table.specs.declared.FrameRecord.{FrameRecord}
-use Rattle.gdb_table.specs.declared.TableAnswer.{TableAnswer}
-use Rattle.gdb_table.specs.declared.TableAnswer.TheVariants as answer
 
 -- of a place and a length that may be refused: a yes or no as a byte, and the place, 0 if no
 abbrev pub yes_in : Answer (ℕ × ℕ) → ℕ
@@ -33,8 +31,3 @@ record_at f r = record_of (frame_seen f r.0 r.1) (earliest registers_in (blocks_
 -- one record per frame
 abbrev pub frame_table : Format → Trace → Answer (List FrameRecord)
 frame_table f t = accepted (map (record_at f) (frames_at f t))
-
--- what `TableAnswer` says
-abbrev pub table_meaning : TableAnswer → Answer ℕ
-table_meaning (answer.Frames n) = accepted n
-table_meaning (answer.Refused n) = refused n

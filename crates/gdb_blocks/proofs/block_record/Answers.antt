@@ -1,7 +1,6 @@
 -- The block that the walk over the located frame's data leads to.
 use Rattle.std.proofs.Common.{ap, ◌∙◌, Ok}
-use Rattle.std.proofs.lemmas.Result.{err_from_is_err_and}
-use Rattle.fields.specs.Given.{at_case}
+use Rattle.fields.specs.Given.{at_case, handed_on}
 use Rattle.gdb_format.specs.Opening.{size_meaning}
 use Rattle.gdb_data.specs.Blocks.{block_step_meaning}
 use Rattle.gdb_blocks.specs.Search.{nth_block}
@@ -11,8 +10,7 @@ use Rattle.gdb_blocks.proofs.block_record.Goals as goal
 pub returns-in_err-step : goal.returns-in_err-step
 returns-in_err-step c =
     let l = c.in_ok-frame.frame in
-    let r = err_from_is_err_and c.from_residual-in_err-step.result c.from_residual-in_err-step.ensures.1 in
-    rw (r.1, r.2)
+    rw (handed_on c.from_residual-in_err-step.ensures.1)
     (block-is (frame-given l c.type_inv.file c.in_ok-frame.ensures) c.args.k
     (c.in_err-step.ensures ∙ ap (λ d. nth_block l.layout.format (size_meaning l.layout.size) d c.args.k l.head.place) c.up_to_data-data.ensures))
 

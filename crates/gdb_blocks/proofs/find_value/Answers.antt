@@ -1,7 +1,6 @@
 -- The block that was met is one of the variable, and its place is kept, or it is another.
 use Rattle.std.proofs.Common.{true, false, ◌∙◌, arith, Ok}
-use Rattle.std.proofs.lemmas.Result.{err_from_is_err_and}
-use Rattle.fields.specs.Given.{at_case}
+use Rattle.fields.specs.Given.{at_case, handed_on}
 use Rattle.gdb_format.specs.Opening.{size_meaning}
 use Rattle.gdb_data.specs.Blocks.{has_number, search_meaning}
 use Rattle.gdb_blocks.specs.SearchLaws.{Met, sought_met}
@@ -15,8 +14,7 @@ returns c =
 
 pub returns-in_err-step : goal.returns-in_err-step
 returns-in_err-step c =
-    let r = err_from_is_err_and c.from_residual.result c.from_residual.ensures.1 in
-    rw (r.1, r.2) (passed-fault c.loop-step.invariant.passed (λ i b. has_number c.args.number b) c.in_err-step.ensures)
+    rw (handed_on c.from_residual.ensures.1) (passed-fault c.loop-step.invariant.passed (λ i b. has_number c.args.number b) c.in_err-step.ensures)
 
 -- a block of the variable was met
 own : (c : goal.Then-step)

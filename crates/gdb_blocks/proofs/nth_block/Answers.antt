@@ -1,8 +1,7 @@
 -- A block more leads where the whole walk does, and so does the end, or a fault.
 use Rattle.std.proofs.Common.{arith, ap, ◌∙◌, ◌≡◌, ◌+◌, ◌-◌, Ok}
-use Rattle.std.proofs.lemmas.Result.{err_from_is_err_and}
 use Rattle.refusals.specs.Number.{number}
-use Rattle.fields.specs.Given.{at_case}
+use Rattle.fields.specs.Given.{at_case, handed_on}
 use Rattle.gdb_format.specs.Decode.{block}
 use Rattle.gdb_format.specs.Opening.{size_meaning}
 use Rattle.gdb_data.specs.Blocks.{block_seen, block_in, block_step_meaning}
@@ -26,8 +25,7 @@ returns-in-None c =
 
 pub returns-in_err-step : goal.returns-in_err-step
 returns-in_err-step c =
-    let r = err_from_is_err_and c.from_residual.result c.from_residual.ensures.1 in
-    rw (r.1, r.2)
+    rw (handed_on c.from_residual.ensures.1)
     (nth-fault block_seen (block c.args.layout.format (size_meaning c.args.layout.size)) c.args.d.now c.loop.at (c.args.k - c.loop.counter)
     (number c.in_err-step.field-0.0) c.in_err-step.ensures ∙ c.loop.invariant)
 

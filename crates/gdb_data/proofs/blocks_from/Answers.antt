@@ -1,10 +1,10 @@
 -- Up to the letter that the walk met, and over the block there.
 use Rattle.std.proofs.Common.{arith, ◌∙◌, refl, Ok, Err, Some}
-use Rattle.std.proofs.lemmas.Result.{err_from_is_err_and}
 use Rattle.gdb_format.specs.Opening.{size_meaning}
 use Rattle.gdb_data.specs.Blocks.{StopsAt}
 use Rattle.gdb_data.proofs.BlockLaws.{Ended}
 use Rattle.gdb_data.proofs.Fills.{fill_refused, registers-turn}
+use Rattle.fields.specs.Given.{handed_on}
 use Rattle.gdb_data.proofs.blocks_from.Goals as goal
 
 -- where the walk stopped, and what stands there
@@ -28,5 +28,4 @@ returns-in_err-at c =
     let s : StopsAt c.args.layout.format c.args.d.now c.loop-place.at (Ok (Some c.in-Some.place)) = rw c.in-Some.is at c.in_ok-place.ensures in
     let e : Ended c.args.layout.format (size_meaning c.args.layout.size) c.loop-place.seen c.args.d.now c.in-Some.place (Err c.in_err-at.field-0.0) =
     record { inside = s.1; answers = c.in_err-at.ensures c.args.layout.format } in
-    let p = err_from_is_err_and c.from_residual-in_err-at.result c.from_residual-in_err-at.ensures.1 in
-    rw (p.1, p.2) (fill_refused e refl ∙ (s.3 (size_meaning c.args.layout.size) c.loop-place.seen ∙ c.loop-place.invariant))
+    rw (handed_on c.from_residual-in_err-at.ensures.1) (fill_refused e refl ∙ (s.3 (size_meaning c.args.layout.size) c.loop-place.seen ∙ c.loop-place.invariant))

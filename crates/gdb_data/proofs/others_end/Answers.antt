@@ -1,15 +1,15 @@
 -- Over the memory or variable block that the walk met.
 use Rattle.std.proofs.Common.{arith, ◌∙◌, refl, ℕ, Bool, false, Ok, Err, Some}
 use Rattle.std.proofs.Math.Option.{Option, none}
-use Rattle.std.proofs.lemmas.Result.{err_from_is_err_and}
 use Rattle.gdb_data.specs.Blocks.{OtherAt, OtherEnds}
 use Rattle.gdb_data.proofs.BlockLaws.{Ended}
 use Rattle.gdb_data.proofs.Fills.{fill_end, fill_refused, other-turn}
+use Rattle.fields.specs.Given.{handed_on}
 use Rattle.gdb_data.proofs.others_end.Goals as goal
 
 pub returns-in_err-next : goal.returns-in_err-next
 returns-in_err-next c =
-    let p = err_from_is_err_and c.from_residual.result c.from_residual.ensures.1 in rw (p.1, p.2) (λ size seen.
+    rw (handed_on c.from_residual.ensures.1) (λ size seen.
     let e : Ended c.args.format size seen c.args.d.now c.loop-at.at (Err c.in_err-next.field-0.0) =
     record { inside = omega arith; answers = c.in_err-next.ensures.1 size seen } in
     fill_refused e refl ∙ c.loop-at.invariant.0 size seen)

@@ -1,7 +1,7 @@
 -- The line that starts where the walk stands, and what each of its answers says of the whole description.
 use Rattle.std.proofs.Common.{arith}
-use Rattle.std.proofs.lemmas.Result.{err_from_is_err_and}
 use Rattle.gdb_format.proofs.Description.{MetLine, walk_none, walk_found, walk_fault, walk_on, walk_over}
+use Rattle.fields.specs.Given.{handed_on}
 use Rattle.gdb_format.proofs.lines_from.Goals as goal
 
 pub returns-then-s-end : goal.returns-then-s-end
@@ -20,7 +20,7 @@ pub returns-in_err-seen : goal.returns-in_err-seen
 returns-in_err-seen c =
     let m : MetLine c.args.format c.args.s.now c.args.from c.loop-start.start c.line_end-end.result c.loop-start.seen =
     record { walked = c.loop-start.invariant; inside = omega arith; ends = c.line_end-end.ensures } in
-    let p = err_from_is_err_and c.from_residual.result c.from_residual.ensures.1 in rw (p.1, p.2) (walk_fault m (omega arith) (omega arith) c.in_err-seen.was c.line_step.ensures)
+    rw (handed_on c.from_residual.ensures.1) (walk_fault m (omega arith) (omega arith) c.in_err-seen.was c.line_step.ensures)
 
 pub loop-start-preserved : goal.loop-start-preserved
 loop-start-preserved c =

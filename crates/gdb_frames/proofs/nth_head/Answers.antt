@@ -1,11 +1,11 @@
 -- A head more, or where the walk stops.
 use Rattle.std.proofs.Common.{arith, ◌∙◌, ap, sym, ◌≡◌, ◌+◌, ◌-◌, Ok, Some, None}
-use Rattle.std.proofs.lemmas.Result.{err_from_is_err_and}
 use Rattle.refusals.specs.Number.{number}
 use Rattle.fields.specs.Reader.{step_at}
 use Rattle.gdb_format.specs.Decode.{frame_head}
 use Rattle.gdb_read.specs.Steps.{head_seen, head_meaning, frame_meaning}
 use Rattle.gdb_frames.specs.Nth.{nth_head, nth-none, nth-fault, nth_on}
+use Rattle.fields.specs.Given.{handed_on}
 use Rattle.gdb_frames.proofs.nth_head.Goals as goal
 
 pub loop-preserved : goal.loop-preserved
@@ -26,7 +26,7 @@ returns-in-None c =
 
 pub returns-in_err-step : goal.returns-in_err-step
 returns-in_err-step c =
-    let p = err_from_is_err_and c.from_residual.result c.from_residual.ensures.1 in rw (p.1, p.2) (nth-fault head_seen (frame_head c.args.format) c.args.s.now c.loop.at (c.args.n - c.loop.counter) (number c.in_err-step.field-0.0) c.in_err-step.ensures
+    rw (handed_on c.from_residual.ensures.1) (nth-fault head_seen (frame_head c.args.format) c.args.s.now c.loop.at (c.args.n - c.loop.counter) (number c.in_err-step.field-0.0) c.in_err-step.ensures
     ∙ c.loop.invariant)
 
 pub returns : goal.returns

@@ -1,21 +1,19 @@
 -- The head that stands there, and whether blocks fill its data.
 use Rattle.std.proofs.Common.{sym, ap, ◌∙◌, ◌≡◌, Ok, Some}
-use Rattle.std.proofs.lemmas.Result.{err_from_is_err_and}
 use Rattle.refusals.specs.Number.{number}
-use Rattle.fields.specs.Answer.{accepted}
-use Rattle.fields.specs.Given.{bytes-given}
+use Rattle.fields.specs.Given.{bytes-given, handed_on}
 use Rattle.fields.specs.Reader.{step_at}
 use Rattle.fields.specs.At.{Turn, walk_more}
 use Rattle.gdb_format.specs.Opening.{size_meaning}
 use Rattle.gdb_format.specs.Decode.{frame_head}
 use Rattle.gdb_format.specs.ExactFrame.{takes-head}
 use Rattle.gdb_read.specs.Steps.{head_seen, head_meaning, frame_meaning}
-use Rattle.gdb_read.proofs.Frames.{frame-end, frame-fault, frame_refused, frame-sound}
+use Rattle.gdb_read.proofs.Frames.{frame-fault, frame_refused, frame-sound}
 use Rattle.gdb_read.proofs.frame_at.Goals as goal
 
 pub returns-in_err-step : goal.returns-in_err-step
 returns-in_err-step c =
-    let p = err_from_is_err_and c.from_residual.result c.from_residual.ensures.1 in rw (p.1, p.2) (frame-fault c.args.layout.format (size_meaning c.args.layout.size) c.args.s.now c.args.at (number c.in_err-step.field-0.0) c.in_err-step.ensures)
+    rw (handed_on c.from_residual.ensures.1) (frame-fault c.args.layout.format (size_meaning c.args.layout.size) c.args.s.now c.args.at (number c.in_err-step.field-0.0) c.in_err-step.ensures)
 
 pub returns-in_err-blocks_from : goal.returns-in_err-blocks_from
 returns-in_err-blocks_from c =
@@ -23,8 +21,7 @@ returns-in_err-blocks_from c =
     ap (λ o. frame_meaning (Ok o)) (sym c.in-Some.is) ∙ c.in_ok-step.ensures in
     let t : Turn head_seen (frame_head c.args.layout.format) c.args.s.now c.args.at (head_meaning c.in-Some.step.head) c.in-Some.step.next =
     walk_more head_seen (frame_head c.args.layout.format) (takes-head c.args.layout.format) c.args.s.now c.args.at _ _ (sym h) in
-    let p = err_from_is_err_and c.from_residual-in_err-blocks_from.result c.from_residual-in_err-blocks_from.ensures.1 in
-    rw (p.1, p.2)
+    rw (handed_on c.from_residual-in_err-blocks_from.ensures.1)
     (frame_refused c.args.layout.format (size_meaning c.args.layout.size) c.args.s.now c.args.at (head_meaning c.in-Some.step.head) c.in-Some.step.next t
     (bytes-given c.args.s.now c.type_inv.s) (number c.in_err-blocks_from.field-0.0) c.in_err-blocks_from.ensures)
 

@@ -1,11 +1,11 @@
 -- A frame more, the mark, the end or a fault, each as the definition counts.
 use Rattle.std.proofs.Common.{arith, sym, ap, ◌∙◌, ◌≡◌, Ok, Some, None}
-use Rattle.std.proofs.lemmas.Result.{err_from_is_err_and}
 use Rattle.fields.specs.Reader.{step_at}
 use Rattle.gdb_format.specs.Decode.{frame}
 use Rattle.gdb_format.specs.Opening.{size_meaning}
-use Rattle.gdb_read.specs.Steps.{frame_seen, head_meaning, frame_meaning}
+use Rattle.gdb_read.specs.Steps.{frame_seen, frame_meaning}
 use Rattle.gdb_read.proofs.Walks.{Counted, count_past, count-mark, count-end, count-refused, count_turn}
+use Rattle.fields.specs.Given.{handed_on}
 use Rattle.gdb_read.proofs.frames_from.Goals as goal
 
 pub returns-then-s-from : goal.returns-then-s-from
@@ -21,7 +21,7 @@ returns-in_default c =
     count-end c.loop-layout.invariant h
 
 pub returns-in_err-step : goal.returns-in_err-step
-returns-in_err-step c = let p = err_from_is_err_and c.from_residual.result c.from_residual.ensures.1 in rw (p.1, p.2) (count-refused c.loop-layout.invariant c.in_err-step.ensures (sym c.if-mark_here.false ∙ c.mark_here.ensures))
+returns-in_err-step c = rw (handed_on c.from_residual.ensures.1) (count-refused c.loop-layout.invariant c.in_err-step.ensures (sym c.if-mark_here.false ∙ c.mark_here.ensures))
 
 -- the frame that was met
 met : (c : goal.In-Some) → Counted c.args.layout.format (size_meaning c.args.layout.size) c.args.s.now c.args.from c.loop-layout.at c.loop-layout.count c.in-Some.step.next

@@ -1,8 +1,7 @@
 -- The opening, and the frames behind it.
 use Rattle.std.proofs.Common.{arith}
-use Rattle.std.proofs.lemmas.Result.{err_from_is_err_and}
 use Rattle.refusals.specs.Number.{number}
-use Rattle.fields.specs.Given.{bytes-given}
+use Rattle.fields.specs.Given.{bytes-given, handed_on}
 use Rattle.gdb_format.specs.Opening.{size_meaning}
 use Rattle.gdb_read.proofs.Whole.{too_long_lem, bad-opening, bad-frames, Whole, all_read}
 use Rattle.gdb_read.proofs.read_as.Goals as goal
@@ -11,12 +10,11 @@ pub returns-then-file-gt-LIMIT : goal.returns-then-file-gt-LIMIT
 returns-then-file-gt-LIMIT c = too_long_lem c.args.format c.args.file.now (omega arith)
 
 pub returns-in_err-opening : goal.returns-in_err-opening
-returns-in_err-opening c = let p = err_from_is_err_and c.from_residual.result c.from_residual.ensures.1 in rw (p.1, p.2) (bad-opening c.args.format c.args.file.now (omega arith) (number c.in_err-opening.field-0.0) c.in_err-opening.ensures)
+returns-in_err-opening c = rw (handed_on c.from_residual.ensures.1) (bad-opening c.args.format c.args.file.now (omega arith) (number c.in_err-opening.field-0.0) c.in_err-opening.ensures)
 
 pub returns-in_err-frames : goal.returns-in_err-frames
 returns-in_err-frames c =
-    let p = err_from_is_err_and c.from_residual-in_err-frames.result c.from_residual-in_err-frames.ensures.1 in
-    rw (p.1, p.2)
+    rw (handed_on c.from_residual-in_err-frames.ensures.1)
     (bad-frames c.args.format c.args.file.now (omega arith) (bytes-given c.args.file.now c.type_inv.file)
     c.in_ok-opening.opening.end (size_meaning c.in_ok-opening.opening.size) c.in_ok-opening.ensures
     (number c.in_err-frames.field-0.0) c.in_err-frames.ensures)

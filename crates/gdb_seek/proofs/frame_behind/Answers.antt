@@ -1,7 +1,6 @@
 -- The head that the walk reaches lies in the file with its data, and its frame is judged as the one of the file up to its end.
 use Rattle.std.proofs.Common.{◌+◌, ◌≤◌, ℕ, Bool, length, sym, ap, ◌∙◌, arith, length-take-le}
-use Rattle.std.proofs.lemmas.Result.{err_from_is_err_and}
-use Rattle.fields.specs.Given.{bytes-given}
+use Rattle.fields.specs.Given.{bytes-given, handed_on}
 use Rattle.fields.specs.Answer.{Answer, accepted, next}
 use Rattle.gdb_format.specs.Opening.{size_meaning}
 use Rattle.gdb_read.specs.Steps.{head_meaning}
@@ -34,8 +33,7 @@ pub returns-in_err-frames_from : goal.returns-in_err-frames_from
 returns-in_err-frames_from c =
     let a = c.args in
     let h = c.in_ok-head.field-0 in
-    let p = err_from_is_err_and c.from_residual-in_err-frames_from.result c.from_residual-in_err-frames_from.ensures.1 in
-    rw (p.1, p.2)
+    rw (handed_on c.from_residual-in_err-frames_from.ensures.1)
     (ap (λ (x : Answer (ℕ × Bool)). next x (λ q. accepted (data_in (head_meaning h.head), h.heads))) c.in_err-frames_from.ensures
     ∙ judged_by a.layout.format (size_meaning a.layout.size) a.file.now (bytes-given a.file.now c.type_inv.file) a.n a.from c.in_ok-head.ensures)
 

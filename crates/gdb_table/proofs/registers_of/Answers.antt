@@ -1,14 +1,14 @@
 -- Where the R line gives no size, no block is a register block.
+use Rattle.std.specs.Prelude.{ℕ, Option}
 use Rattle.std.proofs.Common.{sym, ap, ◌∙◌}
 use Rattle.fields.specs.Given.{bytes-given}
-use Rattle.gdb_format.specs.declared.RegisterSize.{RegisterSize}
 use Rattle.gdb_read.specs.Steps.{head_meaning}
 use Rattle.gdb_blocks.specs.SearchLaws.{none-there}
 use Rattle.gdb_table.specs.Walk.{registers_shown}
 use Rattle.gdb_table.proofs.registers_of.Goals as goal
 
-pub returns-in-Unknown : goal.returns-in-Unknown
-returns-in-Unknown c =
+pub returns-in_default : goal.returns-in_default
+returns-in_default c =
     let v = head_meaning c.args.head in
-    sym (ap (λ (z : RegisterSize). registers_shown (record { format = c.args.manner.format; size = z }) c.args.file.now v) c.in-Unknown.is
-    ∙ none-there c.args.manner.format c.args.file.now v (bytes-given c.args.file.now c.type_inv.file))
+    sym (ap (λ (z : Option ℕ). registers_shown (record { format = c.args.layout.format; size = z }) c.args.file.now v) c.in_default.is
+    ∙ none-there c.args.layout.format c.args.file.now v (bytes-given c.args.file.now c.type_inv.file))

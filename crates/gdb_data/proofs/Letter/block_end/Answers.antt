@@ -1,14 +1,14 @@
 -- A memory or variable block, or else what the register block's test answers.
 use Rattle.std.proofs.Common.{false, Ok, Some}
-use Rattle.std.proofs.lemmas.Result.{err_from_is_err_and}
 use Rattle.gdb_format.specs.Opening.{size_meaning}
 use Rattle.gdb_format.specs.Decode.{block}
 use Rattle.gdb_data.specs.Blocks.{OtherAt}
+use Rattle.fields.specs.Given.{handed_on}
 use Rattle.gdb_data.proofs.Letter.block_end.Goals as goal
 
 pub returns-in_err-end : goal.returns-in_err-end
 unfolding block
-returns-in_err-end c = let p = err_from_is_err_and c.from_residual.result c.from_residual.ensures.1 in rw (p.1, p.2) (c.in_err-end.ensures.1 (size_meaning c.args.layout.size) false)
+returns-in_err-end c = rw (handed_on c.from_residual.ensures.1) (c.in_err-end.ensures.1 (size_meaning c.args.layout.size) false)
 
 pub returns-in-Some : goal.returns-in-Some
 unfolding block
