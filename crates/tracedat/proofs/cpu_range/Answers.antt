@@ -1,12 +1,11 @@
 -- A file that is accepted has its entries where its summary says.
 use Rattle.std.proofs.Common.{arith}
-use Rattle.fields.specs.Given.{bytes-given}
-use Rattle.dat_read.specs.Read.{handed_on}
+use Rattle.fields.specs.Given.{bytes-given, handed_on}
 use Rattle.tracedat.proofs.SummaryLaws.{room, no_header, accepts, none_in_text, no-cpu, the_range_lem}
 use Rattle.tracedat.proofs.cpu_range.Goals as goal
 
 pub returns-in_err-header : goal.returns-in_err-header
-returns-in_err-header c = handed_on _ _ _ c.from_residual.ensures.1 (no_header c.args.file.now c.args.i c.in_err-header.ensures)
+returns-in_err-header c = rw (handed_on c.from_residual.ensures.1) (no_header c.args.file.now c.args.i c.in_err-header.ensures)
 
 pub overflow_add-at : goal.overflow_add-at
 overflow_add-at c =
