@@ -21,10 +21,15 @@ impl From<Selection> for gdb_select::Selection {
     ghost from_gives = { λ flat selection. selection ≡ selection_in flat };
 
     fn from(selection: Selection) -> Self {
+        let Selection {
+            ranges,
+            count,
+            keep,
+        } = selection;
         gdb_select::Selection {
-            ranges: selection.ranges,
-            count: selection.count,
-            keep: selection.keep != 0,
+            ranges,
+            count,
+            keep: keep != 0,
         }
     }
 }
@@ -34,10 +39,15 @@ impl From<gdb_select::Selection> for Selection {
 
     #[tactic(auto, unfolding(crate::specs::Flat::flat_selection))]
     fn from(selection: gdb_select::Selection) -> Self {
+        let gdb_select::Selection {
+            ranges,
+            count,
+            keep,
+        } = selection;
         Selection {
-            ranges: selection.ranges,
-            count: selection.count,
-            keep: selection.keep as u8,
+            ranges,
+            count,
+            keep: keep as u8,
         }
     }
 }

@@ -181,7 +181,7 @@ const ZEROS: Block = Block {
 };
 
 impl From<BlockRecord> for Block {
-    ghost from_gives = { λ record block. block ≡ shown_block record.place (kind_meaning record.kind) };
+    ghost from_gives = { λ met block. block ≡ shown_block met.place (kind_meaning met.kind) };
 
     fn from(record: BlockRecord) -> Self {
         let place = record.place;

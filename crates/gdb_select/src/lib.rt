@@ -6,14 +6,14 @@ ghost use Rattle.gdb_select.specs.Selection.{in_some, selects, meaning, valid, a
 
 // Tracepoint numbers from low to high, both among them.
 #[repr(C)]
-#[derive(Clone, Copy)]
+#[derive(Clone, Copy, Debug, PartialEq, Eq)]
 pub struct Range {
     pub low: u16,
     pub high: u16,
 }
 
 // The numbers in one of the first `count` ranges, or with `keep` false the others. The ranges behind are no part of it.
-#[derive(Clone, Copy)]
+#[derive(Clone, Copy, Debug, PartialEq, Eq)]
 pub struct Selection {
     pub ranges: [Range; 8],
     pub count: usize,
