@@ -6,9 +6,8 @@ ghost use Rattle.std.specs.Prelude.{◌≡◌, length};
 
 use dat_read::summary::{EndingKind, Flags, Part, Summary};
 use fields::Order;
-use refusals::TOO_LONG;
-use std::io;
-use tracedat::{RangeAnswer, SummaryAnswer};
+use refusals::Refusal;
+use std::{fmt, io};
 
 // The longest file that is listed, the program's own limit.
 const LIMIT: usize = 131072;
@@ -21,80 +20,73 @@ fn input_room() -> [u8; 131073]
     [0; 131073]
 }
 
-fn refused(rt: &impl Print, n: u8) -> io::Result<()> {
-    println!(rt; "refused {n}")
-}
+// A section's place and size.
+#[derive(Clone, Copy)]
+struct At(Part);
 
-// A section's name, place and size.
-fn part(rt: &impl Print, name: &str, p: Part) -> io::Result<()> {
-    println!(rt; "{name} {} {}", p.place, p.size)
-}
-
-// The same, and how many elements it has.
-fn list(rt: &impl Print, name: &str, p: Part, count: u32) -> io::Result<()> {
-    println!(rt; "{name} {} {} {count}", p.place, p.size)
-}
-
-fn order(rt: &impl Print, order: Order) -> io::Result<()> {
-    match order {
-        Order::Little => println!(rt; "order little"),
-        Order::Big => println!(rt; "order big"),
+impl fmt::Display for At {
+    fn fmt<W: fmt::Write>(&self, f: &mut fmt::Formatter<W>) -> fmt::Result {
+        write!(f, "{} {}", self.0.place, self.0.size)
     }
 }
 
 fn flags(rt: &impl Print, f: Flags) -> io::Result<()> {
-    order(rt, f.order)?;
+    let order = match f.order {
+        Order::Little => "little",
+        Order::Big => "big",
+    };
+    println!(rt; "order {order}")?;
     println!(rt; "long {}", f.long)?;
     println!(rt; "page {}", f.page)
 }
 
 fn sections(rt: &impl Print, s: Summary) -> io::Result<()> {
     let p = s.sections;
-    part(rt, "header_page", p.header_page)?;
-    part(rt, "header_event", p.header_event)?;
-    list(rt, "formats", p.formats, p.format_count)?;
-    list(rt, "systems", p.systems, p.system_count)?;
+    println!(rt; "header_page {}", At(p.header_page))?;
+    println!(rt; "header_event {}", At(p.header_event))?;
+    println!(rt; "formats {} {}", At(p.formats), p.format_count)?;
+    println!(rt; "systems {} {}", At(p.systems), p.system_count)?;
     let t = s.texts;
-    part(rt, "kallsyms", t.kallsyms)?;
-    part(rt, "printk", t.printk)?;
-    part(rt, "processes", t.processes)?;
-    part(rt, "options", s.options)
+    println!(rt; "kallsyms {}", At(t.kallsyms))?;
+    println!(rt; "printk {}", At(t.printk))?;
+    println!(rt; "processes {}", At(t.processes))?;
+    println!(rt; "options {}", At(s.options))
 }
 
 fn body(rt: &impl Print, s: Summary) -> io::Result<()> {
-    match s.ending {
-        EndingKind::Latency => part(rt, "latency", s.body),
-        EndingKind::Flyrecord => part(rt, "flyrecord", s.body),
-    }
+    let ending = match s.ending {
+        EndingKind::Latency => "latency",
+        EndingKind::Flyrecord => "flyrecord",
+    };
+    println!(rt; "{ending} {}", At(s.body))
 }
 
 // CPU i's range, or why there is none.
 fn cpu(rt: &impl Print, file: &[u8], i: usize) -> io::Result<()> {
-    print!(rt; "cpu {i} ")?;
     match tracedat::cpu_range(file, i) {
-        RangeAnswer::Refused(n) => refused(rt, n),
-        RangeAnswer::Range { offset, size } => println!(rt; "{offset} {size}"),
+        Ok(range) => println!(rt; "cpu {i} {} {}", range.offset, range.size),
+        Err(e) => println!(rt; "cpu {i} refused {e}"),
     }
 }
 
 // The CPU count, every CPU's range, and what the question after the last answers.
 fn ranges(rt: &impl Print, file: &[u8], n: u32) -> io::Result<()> {
     println!(rt; "cpus {n}")?;
-    for i in 0..n {
-        cpu(rt, file, i as usize)?;
+    for i in 0..=n as usize {
+        cpu(rt, file, i)?;
     }
-    cpu(rt, file, n as usize)
+    Ok(())
 }
 
 fn listed(rt: &impl Print, file: &[u8]) -> io::Result<()> {
     match tracedat::summary(file) {
-        SummaryAnswer::Refused(n) => refused(rt, n),
-        SummaryAnswer::Accepted(s) => {
+        Ok(s) => {
             flags(rt, s.flags)?;
             sections(rt, s)?;
             body(rt, s)?;
             ranges(rt, file, s.texts.cpus)
         }
+        Err(e) => println!(rt; "refused {e}"),
     }
 }
 
@@ -102,7 +94,7 @@ fn main(rt: HostRuntime) -> io::Result<()> {
     let mut input = input_room();
     let n = input::read_full(&mut rt.stdin(), &mut input)?;
     if LIMIT < n {
-        refused(&rt, TOO_LONG)
+        println!(&rt; "refused {}", Refusal::TooLong)
     } else {
         listed(&rt, &input[..n])
     }

@@ -1,6 +1,6 @@
 -- Ranges that have claimed their units: the next one finds all its units free exactly where it is apart from each of them.
 -- Assumes nothing.
-use Rattle.std.proofs.Common.{◌≡◌, ℕ, zero, suc, ◌+◌, ◌/◌, ◌%◌, ◌<◌, Bool, true, false, ◌↔◌, List, [], ◌∷◌, ◌++◌, length, get_or, replicate, sym, refl, ap, ◌∙◌, arith, append_assoc, append-nil, length-append}
+use Rattle.std.proofs.Common.{◌≡◌, ℕ, zero, suc, ◌+◌, ◌/◌, ◌%◌, Bool, true, false, ◌↔◌, List, [], ◌∷◌, ◌++◌, length, get_or, replicate, sym, refl, ap, ◌∙◌, arith, append_assoc, append-nil, length-append}
 use lib.ListN.{length-replicate}
 use Rattle.fields.specs.Lists.{Each, each_map, clash}
 use Rattle.fields.specs.Word.{and_inv}
@@ -10,7 +10,7 @@ use Rattle.dat_format.specs.Layout.{NoneInBoth}
 use Rattle.dat_format.specs.Tests.{apart, all, all_apart}
 use Rattle.dat_format.specs.Units.{InUnit, NoUnitOfBoth, OnUnits, share_unit}
 use Rattle.dat_format.specs.RangeLaws.{apart_from}
-use Rattle.dat_format.specs.Entries.{entry_at, entries}
+use Rattle.dat_format.specs.Entries.{entry_at}
 use Rattle.dat_ranges.specs.Map.{bit, mark, Claimed, ClaimSays}
 use Rattle.dat_ranges.proofs.BitLaws.{zero_bit}
 use Rattle.dat_ranges.specs.Ranges.{entries_in}
@@ -80,12 +80,6 @@ walk_start {o} [] rest e h p l =
 walk_start (x ∷ ahead) rest e h p l = absurd (omega arith)
 
 module _ {o : Order} {b rest m : List ℕ} (w : Walk o b rest m) where
-  pub walk_end : length rest < 16 → true ≡ all_apart (entries_in o b)
-  walk_end l =
-      let d : length rest / 16 ≡ 0 = omega arith in
-      let e : entries_in o rest ≡ [] = ap (λ n. entries o rest n 0) d in
-      sym w.clear ∙ ap all_apart (sym (ap (λ rs. rs ++ w.done) e) ∙ w.parts)
-
   module _ (next x : List ℕ) (e : rest ≡ next ++ x) (l : length x ≡ 16) {r : Range} (f : r ≡ entry_at o x 0) where
     length_rest : length rest ≡ length next + 16
     length_rest = ap length e ∙ length-append next x ∙ ap (λ n. length next + n) l

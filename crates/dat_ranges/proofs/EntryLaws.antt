@@ -1,6 +1,6 @@
 -- Entries of 16 bytes, one behind the other: the first and the last of those in a part of a file, and the part that holds n from a place on.
 -- Assumes nothing.
-use Rattle.std.proofs.Common.{◌≡◌, ℕ, zero, suc, ◌+◌, ◌-◌, ◌*◌, ◌/◌, ◌%◌, ◌<◌, ◌≤◌, Bool, true, false, List, [], ◌∷◌, ◌++◌, length, take, drop, sym, refl, ap, ◌∙◌, ap₂, add-zero, arith, length-append}
+use Rattle.std.proofs.Common.{◌≡◌, ℕ, zero, suc, ◌+◌, ◌-◌, ◌*◌, ◌/◌, ◌%◌, ◌≤◌, Bool, true, false, List, [], ◌∷◌, ◌++◌, length, take, drop, sym, refl, ap, ◌∙◌, ap₂, add-zero, arith, length-append}
 use Rattle.std.proofs.Math.Seq.{take-append_seam, drop-append_seam, take-length}
 use Rattle.fields.specs.Lists.{length_part}
 use Rattle.fields.specs.Number.{word_at, word-part}
@@ -70,9 +70,6 @@ pub record Left (f : Range → Bool) (o : Order) (b rest : List ℕ) : Type 0 wh
   pub same : all f (entries_in o rest) ≡ all f (entries_in o b)
 
 module _ {f : Range → Bool} {o : Order} {b rest : List ℕ} (w : Left f o b rest) where
-  pub all_end : length rest < 16 → true ≡ all f (entries_in o b)
-  all_end l = let d : length rest / 16 ≡ 0 = omega arith in sym (ap (λ n. all f (entries o rest n 0)) d) ∙ w.same
-
   module _ (x next : List ℕ) (e : rest ≡ x ++ next) (l : length x ≡ 16) {r : Range} (g : r ≡ entry_at o x 0) where
     first : all f (r ∷ entries_in o next) ≡ all f (entries_in o b)
     first = ap (λ r. all f (r ∷ entries_in o next)) g ∙ ap (all f) (sym (ap (entries_in o) e ∙ first_entry o x next l)) ∙ w.same

@@ -11,7 +11,10 @@ use Rattle.std.specs.Prelude.{Result, Ok, Err}
 use Rattle.refusals.specs.Number.{number}
 use Rattle.refusals.specs.Refusal.{limit, too_long, not_found, bad_range, ranges_overlap}
 use Rattle.fields.specs.Lists.{clash}
-use Rattle.fields.specs.Number.{Bytes, word_at}
+use Rattle.fields.specs.Number.{word_at}
+use Rattle.fields.specs.Given.{bytes-given}
+use Rattle.std.specs.Int.{w8}
+use Rattle.std.proofs.Common.{Fits, get_or}
 use Rattle.fields.specs.Answer.{Answer, accepted, refused, accepted-one, next, next_inv, refused_inv}
 use Rattle.fields.specs.Reader.{seen_at}
 use Rattle.fields.specs.Got.{Got, not_read, got}
@@ -125,10 +128,10 @@ pub record HeaderFound (s : List ℕ) (sm : Summary) (end : ℕ) : Type 0 where
   pub got : Got header HeaderFits encode s 0 end
   pub sums : summary (length s) got.value ≡ sm
 
-pub header-found : {s : List ℕ} {sm : Summary} {end : ℕ} → Bytes s → length s ≤ limit → accepted (sm, end) ≡ seen_at (summary_seen (length s)) header s 0
-    → HeaderFound s sm end
+pub header-found : {s : List ℕ} {sm : Summary} {end : ℕ} → ((i : ℕ) → Fits w8 (get_or s i 0)) → length s ≤ limit
+    → accepted (sm, end) ≡ seen_at (summary_seen (length s)) header s 0 → HeaderFound s sm end
 header-found {s} {sm} {end} b short e =
-    let g = got exact_header s b 0 (omega arith) (summary_seen (length s)) sm end e in
+    let g = got exact_header s (bytes-given s b) 0 (omega arith) (summary_seen (length s)) sm end e in
     record { short = short; got = g.0; sums = g.1 }
 
 module _ {s : List ℕ} {sm : Summary} {end : ℕ} (w : HeaderFound s sm end) where
@@ -197,11 +200,11 @@ pub record Accepts (s : List ℕ) (sm : Summary) : Type 0 where
   pub summarised : Summarised s sm
   pub decodes : decode s ≡ accepted summarised.whole
 
-pub accepts : {s : List ℕ} {sm : Summary} → Bytes s → accepted sm ≡ summed s → Accepts s sm
+pub accepts : {s : List ℕ} {sm : Summary} → ((i : ℕ) → Fits w8 (get_or s i 0)) → accepted sm ≡ summed s → Accepts s sm
 unfolding summed
 accepts {s} {sm} b e =
     let q = next_inv (decode s) (λ h. accepted (summary (length s) h)) (sym e) in
-    let o = (exactness s q.0 b).0 q.1 in
+    let o = (exactness s q.0 (bytes-given s b)).0 q.1 in
     record {
       summarised = record { whole = q.0; rest = o.1.0; laid = o.1.1; fits = o.0.fits; sums = accepted-one q.2 };
       decodes = q.1;
