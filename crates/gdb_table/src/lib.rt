@@ -12,7 +12,7 @@ ghost use Rattle.gdb_table.specs.Walk.{no_frame, registers_shown, step_from, rec
 use gdb_data::FrameLayout;
 use gdb_format::Settings;
 use gdb_frames::Part;
-use gdb_read::{FrameHead, FrameStep};
+use gdb_read::FrameHead;
 use refusals::Refusal;
 
 // A frame's record: its tracepoint number, the place of its data, and their size; whether it has a register block, 1 or 0, and the place of the earliest
@@ -40,19 +40,14 @@ fn record_of(head: FrameHead, registers: Result<Part, Refusal>) -> FrameRecord
     }
 }
 
-// The registers of a frame. Without an R line there are none, and its blocks are not looked at. The size is made anew, since handed on as it is it would be
-// copied for each frame in two pieces (docs/PERFORMANCE.md).
+// The registers of a frame. Without an R line there are none, and its blocks are not looked at.
 fn registers_of(layout: FrameLayout, file: &[u8], head: FrameHead) -> Result<Part, Refusal>
     ensures { place_meaning result ≡ registers_shown layout file.now (head_meaning head) }
 {
-    let Some(n) = layout.size else {
-        return Err(Refusal::NotFound);
-    };
-    let layout = FrameLayout {
-        format: layout.format,
-        size: Some(n),
-    };
-    gdb_blocks::frame_registers(layout, file, head)
+    match layout.size {
+        Some(_) => gdb_blocks::frame_registers(layout, file, head),
+        None => Err(Refusal::NotFound),
+    }
 }
 
 // A frame's record, and the place after the frame.
@@ -82,13 +77,10 @@ fn step_at(layout: FrameLayout, file: &[u8], at: usize) -> Step
     ensures { result ≡ step_from layout file.now at }
 {
     match gdb_read::head_at(layout.format, file, at) {
-        Ok(Some(FrameStep { head, next })) => {
-            let registers = registers_of(layout, file, head);
-            Step {
-                found: record_of(head, registers),
-                next,
-            }
-        }
+        Ok(Some(step)) => Step {
+            found: record_of(step.head, registers_of(layout, file, step.head)),
+            next: step.next,
+        },
         _ => nothing(),
     }
 }
