@@ -19,12 +19,24 @@ use Rattle.gdb_format.specs.ExactFrame.{exact_head, takes-head}
 use Rattle.gdb_format.specs.declared.Format.{Format}
 use Rattle.gdb_read.specs.Steps.{Row, head_seen, head_meaning}
 use Rattle.gdb_frames.specs.Nth.{found_by}
+use Rattle.gdb_read.specs.declared.FrameStep.{FrameStep}
 use Rattle.gdb_seek.specs.Walk.{before_end, head_or_end, Walk, goes_on, past, walk_to}
 use Rattle.gdb_seek.specs.declared.Reached.{Reached}
 
 -- what a walk comes to, with the number of heads that it has read
 abbrev pub arrived : Walk → Answer (Row × ℕ)
 arrived w = next w.reached (λ r. accepted (r, length w.visited))
+
+-- the frame that stands at a place; 12 where an end does
+abbrev pub or_missing : Option (Row × ℕ) → Answer (Row × ℕ)
+or_missing none = refused not_found
+or_missing (some r) = accepted r
+
+abbrev pub frame_there : Format → List ℕ → ℕ → Answer (Row × ℕ)
+frame_there f b at = next (head_or_end f b at) or_missing
+
+abbrev pub step_meaning : Result FrameStep Refusal → Answer (Row × ℕ)
+step_meaning r = answer_by (λ s. (head_meaning s.head, s.next)) r
 
 -- what the code's walk answers
 abbrev pub reached_meaning : Result Reached Refusal → Answer (Row × ℕ)
@@ -52,6 +64,15 @@ module _ (f : Format) (b : List ℕ) (at : ℕ) where
   -- a head that was met stands there, and no end
   pub head_met : (r : Row × ℕ) → accepted (some r) ≡ head_or_end f b at → (ending (drop at b) ≡ none) × (accepted (some r) ≡ step_at head_seen (frame_head f) b at)
   head_met r e = some-before r (ending (drop at b)) (step_at head_seen (frame_head f) b at) e
+
+  -- a frame that was met stands there
+  pub stands_there : {r : Row × ℕ} → accepted r ≡ frame_there f b at → accepted (some r) ≡ head_or_end f b at
+  stands_there {r} e = by (head_or_end f b at) e
+    where
+      by : (x : Answer (Option (Row × ℕ))) → accepted r ≡ next x or_missing → accepted (some r) ≡ x
+      by (refused k) e = clash (cc)
+      by (accepted none) e = clash (cc)
+      by (accepted (some q)) e = ap (λ z. accepted (some z)) (accepted-one e)
 
   pub head-turn : {v : Row} {m : ℕ} → accepted (some (v, m)) ≡ head_or_end f b at → Turn head_seen (frame_head f) b at v m
   head-turn {v} {m} e = walk_more head_seen (frame_head f) (takes-head f) b at v m (sym (head_met (v, m) e).1)
@@ -127,19 +148,15 @@ going_starts f b from n =
     record { few = omega arith; ahead = omega arith; same = ap (λ j. arrived_after 0 (walk_to f b j from)) i ∙ after_none (walk_to f b n from) }
 
 module _ {f : Format} {b : List ℕ} {from n at k : ℕ} (g : Going f b from n at k) where
-  pub going_ended : accepted none ≡ head_or_end f b at → refused not_found ≡ arrived (walk_to f b n from)
-  going_ended e = by (n - k) ∙ g.same
+  pub going_stopped : {m : ℕ} → refused m ≡ frame_there f b at → refused m ≡ arrived (walk_to f b n from)
+  going_stopped {m} e = by (head_or_end f b at) e (n - k) refl ∙ g.same
     where
-      by : (j : ℕ) → refused not_found ≡ arrived_after k (walk_to f b j at)
-      by zero = rw (← e)
-      by (suc j) = rw (← e)
-
-  pub going_refused : {m : ℕ} → refused m ≡ head_or_end f b at → refused m ≡ arrived (walk_to f b n from)
-  going_refused {m} e = by (n - k) ∙ g.same
-    where
-      by : (j : ℕ) → refused m ≡ arrived_after k (walk_to f b j at)
-      by zero = rw (← e)
-      by (suc j) = rw (← e)
+      by : (x : Answer (Option (Row × ℕ))) → refused m ≡ next x or_missing → (j : ℕ) → head_or_end f b at ≡ x → refused m ≡ arrived_after k (walk_to f b j at)
+      by (refused i) e zero h = rw h e
+      by (refused i) e (suc j) h = rw h e
+      by (accepted none) e zero h = rw h e
+      by (accepted none) e (suc j) h = rw h e
+      by (accepted (some r)) e j h = clash (cc)
 
   module _ {v : Row} {m : ℕ} (e : accepted (some (v, m)) ≡ head_or_end f b at) where
     pub going_arrived : k ≡ n → accepted (v, k + 1) ≡ arrived (walk_to f b n from)

@@ -4,11 +4,10 @@
 
 ghost use Rattle.std.specs.Prelude.{◌≡◌};
 ghost use Rattle.gdb_format.specs.Opening.{size_meaning};
-ghost use Rattle.gdb_read.specs.Steps.{frame_meaning};
 ghost use Rattle.gdb_frames.specs.Questions.{Handed};
-ghost use Rattle.gdb_seek.specs.Walk.{head_or_end, walk_to};
+ghost use Rattle.gdb_seek.specs.Walk.{walk_to};
 ghost use Rattle.gdb_seek.specs.Found.{judged, found_in, frame_found, data_found, found_meaning};
-ghost use Rattle.gdb_seek.specs.Turns.{reached_meaning, arrived};
+ghost use Rattle.gdb_seek.specs.Turns.{step_meaning, frame_there, reached_meaning, arrived};
 
 use gdb_data::FrameLayout;
 use gdb_format::{Format, Settings};
@@ -16,14 +15,14 @@ use gdb_frames::Part;
 use gdb_read::{FrameHead, FrameStep};
 use refusals::{LIMIT, Refusal};
 
-// What stands where a head should start; the end mark counts as the end.
-fn head_or_end(format: Format, s: &[u8], at: usize) -> Result<Option<FrameStep>, Refusal>
-    ensures { frame_meaning result ≡ head_or_end format s.now at }
+// The frame whose head stands at `at`, its blocks not looked at; the end mark counts as the end, and so as no frame.
+fn frame_there(format: Format, s: &[u8], at: usize) -> Result<FrameStep, Refusal>
+    ensures { step_meaning result ≡ frame_there format s.now at }
 {
     if gdb_read::mark_at(s, at) {
-        return Ok(None);
+        return Err(Refusal::NotFound);
     }
-    gdb_read::head_at(format, s, at)
+    gdb_read::head_at(format, s, at)?.ok_or(Refusal::NotFound)
 }
 
 // The head that a walk was to reach, and how many it has read.
@@ -38,20 +37,11 @@ fn walk_to(format: Format, s: &[u8], from: usize, n: usize) -> Result<Reached, R
     ensures { reached_meaning result ≡ arrived (walk_to format s.now n from) }
 {
     let mut at = from;
-    let mut passed: usize = 0;
-    loop {
-        let Some(step) = head_or_end(format, s, at)? else {
-            return Err(Refusal::NotFound);
-        };
-        if passed == n {
-            return Ok(Reached {
-                head: step.head,
-                heads: passed + 1,
-            });
-        }
-        at = step.next;
-        passed += 1;
+    for _ in 0..n {
+        at = frame_there(format, s, at)?.next;
     }
+    let head = frame_there(format, s, at)?.head;
+    Ok(Reached { head, heads: n + 1 })
 }
 
 // The data of a frame, and how many frame heads were read for it.

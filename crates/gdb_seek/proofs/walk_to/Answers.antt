@@ -1,22 +1,14 @@
--- The end, a fault, the head that was sought, or a head more.
-use Rattle.std.proofs.Common.{arith, sym, ap, ◌∙◌, ◌≡◌, Ok, Some}
-use Rattle.fields.specs.At.{Turn}
-use Rattle.gdb_format.specs.Decode.{frame_head}
-use Rattle.gdb_read.specs.Steps.{head_seen, head_meaning, frame_meaning}
-use Rattle.gdb_seek.specs.Walk.{head_or_end}
-use Rattle.gdb_seek.specs.Turns.{going_on, head-turn}
+-- A head more, or why there is none.
+use Rattle.std.proofs.Common.{arith}
+use Rattle.fields.specs.Given.{handed_on}
+use Rattle.gdb_seek.specs.Turns.{stands_there, going_stopped, going_on}
 use Rattle.gdb_seek.proofs.walk_to.Goals as goal
-use Rattle.gdb_seek.proofs.walk_to.Goals.{Else-passed-n}
 
--- the head that was met
-met : (c : Else-passed-n) → frame_meaning (Ok (Some c.in-Some.step)) ≡ head_or_end c.args.format c.args.s.now c.loop-step.at
-met c = ap (λ o. frame_meaning (Ok o)) (sym c.in-Some.is) ∙ c.in_ok-step.ensures
+pub loop-preserved : goal.loop-preserved
+loop-preserved c = going_on c.loop.invariant (stands_there c.args.format c.args.s.now c.loop.at c.in_ok-at.ensures) (λ e. omega arith)
 
-pub loop-step-smaller : goal.loop-step-smaller
-loop-step-smaller c =
-    let t : Turn head_seen (frame_head c.args.format) c.args.s.now c.loop-step.at (head_meaning c.in-Some.step.head) c.in-Some.step.next =
-    head-turn c.args.format c.args.s.now c.loop-step.at (met c) in
-    omega (arith, t.later, t.within)
+pub returns-in_err-at : goal.returns-in_err-at
+returns-in_err-at c = rw (handed_on c.from_residual.ensures.1) (going_stopped c.loop.invariant c.in_err-at.ensures)
 
-pub loop-step-preserved : goal.loop-step-preserved
-loop-step-preserved c = going_on c.loop-step.invariant (met c) c.if-passed-n.false
+pub returns-in_err-head : goal.returns-in_err-head
+returns-in_err-head c = rw (handed_on c.from_residual-in_err-head.ensures.1) (going_stopped c.loop.invariant c.in_err-head.ensures)
