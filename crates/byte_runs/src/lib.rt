@@ -8,15 +8,9 @@ pub fn copy(src: &[u8], dst: &mut [u8]) -> usize
     ensures count { result ≡ min (length src.now) (length dst.old) }
     ensures written { dst.new ≡ take result src.now ++ drop result dst.old }
 {
-    let n = if src.len() < dst.len() {
-        src.len()
-    } else {
-        dst.len()
-    };
-    let mut i = 0;
-    while i < n {
+    let n = src.len().min(dst.len());
+    for i in 0..n {
         dst[i] = src[i];
-        i += 1;
     }
     n
 }
@@ -25,15 +19,5 @@ pub fn copy(src: &[u8], dst: &mut [u8]) -> usize
 pub fn same<'a>(a: &'a [u8], b: &'a [u8]) -> bool
     ensures { IsTrue result ↔ a.now ≡ b.now }
 {
-    if a.len() != b.len() {
-        return false;
-    }
-    let mut i = 0;
-    while i < a.len() {
-        if a[i] != b[i] {
-            return false;
-        }
-        i += 1;
-    }
-    true
+    a == b
 }

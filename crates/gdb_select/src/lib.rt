@@ -1,7 +1,7 @@
 // Selections of frames by their tracepoint numbers.
 #![tactic(auto)]
 
-ghost use Rattle.std.specs.Prelude.{◌≡◌, length, take};
+ghost use Rattle.std.specs.Prelude.{◌≡◌, ◌&&◌, leb};
 ghost use Rattle.gdb_select.specs.Selection.{in_some, selects, meaning, valid, against};
 
 // Tracepoint numbers from low to high, both among them.
@@ -10,6 +10,20 @@ ghost use Rattle.gdb_select.specs.Selection.{in_some, selects, meaning, valid, a
 pub struct Range {
     pub low: u16,
     pub high: u16,
+}
+
+impl Range {
+    fn is_ordered(self) -> bool
+        ensures { result ≡ leb self.low self.high }
+    {
+        self.low <= self.high
+    }
+
+    fn holds(self, n: u16) -> bool
+        ensures { result ≡ (leb self.low n && leb n self.high) }
+    {
+        self.low <= n && n <= self.high
+    }
 }
 
 // The numbers in one of the first `count` ranges, or with `keep` false the others. The ranges behind are no part of it.
@@ -24,63 +38,32 @@ pub struct Selection {
 pub fn opposite(selection: Selection) -> Selection
     ensures { result ≡ against selection }
 {
-    let mut other = selection;
-    other.keep = !selection.keep;
-    other
+    Selection {
+        keep: !selection.keep,
+        ..selection
+    }
 }
 
 // Whether it is one: at most eight ranges, none with low above high.
 pub fn is_valid(selection: Selection) -> bool
     ensures { result ≡ valid selection }
 {
-    let count = selection.count;
-    if 8 < count {
-        return false;
-    }
-    let mut i: usize = 0;
-    while i < count {
-        let r = selection.ranges[i];
-        if r.high < r.low {
-            return false;
-        }
-        i += 1;
-    }
-    true
+    let most = selection.ranges.len();
+    let mut stated = selection.ranges.iter().take(selection.count);
+    selection.count <= most && stated.all(|r| r.is_ordered())
 }
 
-// How many ranges there are to look at: of a count above 8, the eight that the array has.
-fn stated(selection: Selection) -> usize
-    ensures { result ≡ length (take selection.count selection.ranges) }
-{
-    if 8 < selection.count {
-        return 8;
-    }
-    selection.count
-}
-
+// Of a count above 8, the eight ranges that the array has.
 fn in_some(selection: Selection, n: u16) -> bool
     ensures { result ≡ in_some (meaning selection).ranges n }
 {
-    let count = stated(selection);
-    let mut i: usize = 0;
-    while i < count {
-        let r = selection.ranges[i];
-        if r.low <= n {
-            if n <= r.high {
-                return true;
-            }
-        }
-        i += 1;
-    }
-    false
+    let mut stated = selection.ranges.iter().take(selection.count);
+    stated.any(|r| r.holds(n))
 }
 
 // Whether a frame of this tracepoint number is selected.
 pub fn is_selected(selection: Selection, n: u16) -> bool
     ensures { result ≡ selects (meaning selection) n }
 {
-    if in_some(selection, n) {
-        return selection.keep;
-    }
-    !selection.keep
+    selection.keep == in_some(selection, n)
 }

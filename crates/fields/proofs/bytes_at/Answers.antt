@@ -1,9 +1,10 @@
 -- Past the end there are zeros. What stands from the place on is the list less what is before it, and its front is the bytes, or they are taken from it
 -- one by one.
-use Rattle.std.proofs.Common.{rules, ◌≡◌, ℕ, zero, suc, ◌+◌, ◌≤◌, List, [], ◌∷◌, refl, arith, sym, ap, ap₂, ◌∙◌, length, drop, replicate, get_or, get_or-drop, drop_of_length-le}
+use Rattle.std.proofs.Common.{rules, ◌≡◌, ℕ, zero, suc, ◌+◌, List, ◌∷◌, refl, arith, sym, ap, ap₂, ◌∙◌, length, drop, replicate, get_or, get_or-drop, drop_of_length-le}
 use Rattle.std.specs.List.{slice_range}
 use Rattle.std.specs.Array.{IsFromFnResult, IsFromFnResultFrom}
 use Rattle.std.specs.Fn.{Called, Mut}
+use Rattle.std.proofs.lemmas.List.{get_or_past}
 use Rattle.std.proofs.lemmas.Slice.{between_to_end}
 use Rattle.fields.specs.Number.{spell, spell-front}
 use Rattle.fields.specs.Lists.{drop-one}
@@ -12,11 +13,6 @@ use Rattle.fields.proofs.bytes_at.Goals as goal
 zeros : (n : ℕ) (f : ℕ → ℕ) → ((k : ℕ) → f k ≡ 0) → replicate n 0 ≡ spell n f
 zeros zero f h = refl
 zeros (suc n) f h = ap₂ {C = List ℕ} (λ b l. b ∷ l) (sym (h 0)) (zeros n (λ k. f (suc k)) (λ k. h (suc k)))
-
-past : (s : List ℕ) (i : ℕ) → length s ≤ i → get_or s i 0 ≡ 0
-past [] i h = refl
-past (x ∷ s) zero h = absurd (omega arith)
-past (x ∷ s) (suc i) h = past s i (omega arith)
 
 reads : (s r : List ℕ) (at : ℕ) → r ≡ slice_range s at (length s) → (k : ℕ) → get_or s (at + k) 0 ≡ get_or r k 0
 reads s r at e k = rw (e, between_to_end s at (length s) (omega arith), get_or-drop)
@@ -32,7 +28,7 @@ module _ {F : Type 0} (g : Mut F (ℕ × Unit {0}) ℕ) (f : F) (v : ℕ → ℕ
   spelled n w e r = spelled-from n 0 w (λ k. e k ∙ ap v (omega arith)) (omega (arith, r.long)) r.each
 
 pub returns-in_default : goal.returns-in_default
-returns-in_default g c = zeros _ _ (λ k. past c.args.s.now (c.args.at + k) (omega (arith, c.in_default.ensures.lookup.0)))
+returns-in_default g c = zeros _ _ (λ k. get_or_past c.args.s.now (c.args.at + k) 0 (omega (arith, c.in_default.ensures.lookup.0)))
 
 pub returns-in-Some-first_chunk : goal.returns-in-Some-first_chunk
 returns-in-Some-first_chunk g c =
