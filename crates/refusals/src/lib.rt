@@ -67,24 +67,3 @@ impl fmt::Display for Refusal {
         write!(f, "{}", *self as u8)
     }
 }
-
-// The numbers, for what is not moved yet.
-pub const TOO_LONG: u8 = 1;
-pub const BAD_ARGUMENT: u8 = 2;
-pub const BAD_HEAD: u8 = 3;
-pub const NO_EMPTY_LINE: u8 = 4;
-pub const BAD_LINE: u8 = 5;
-pub const SHORT_HEAD: u8 = 6;
-pub const DATA_PAST_FILE: u8 = 7;
-pub const BAD_LETTER: u8 = 8;
-pub const BLOCK_PAST_DATA: u8 = 9;
-pub const NO_REGISTER_SIZE: u8 = 10;
-pub const NO_ROOM: u8 = 11;
-pub const NOT_FOUND: u8 = 12;
-pub const OPENINGS_DIFFER: u8 = 13;
-pub const FIELD_PAST_FILE: u8 = 14;
-pub const BAD_CONSTANT: u8 = 15;
-pub const BAD_RANGE: u8 = 16;
-pub const RANGES_OVERLAP: u8 = 17;
-pub const BAD_MARK: u8 = 18;
-pub const SECOND_REGISTERS: u8 = 24;
