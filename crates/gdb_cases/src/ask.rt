@@ -1,41 +1,31 @@
 // The questions, each with its answer.
 use crate::{show, steps, table};
-use gdb_blocks::BlockAnswer;
 use gdb_format::Settings;
-use gdb_frames::{CountAnswer, LineAnswer, LocatedAnswer, MarkAnswer};
 use std::io;
 
 fn count(rt: &impl Print, settings: Settings, file: &[u8]) -> io::Result<()> {
     match gdb_frames::frame_count(settings, file) {
-        CountAnswer::Frames(n) => print!(rt; " {n}"),
-        CountAnswer::Refused(n) => show::refused(rt, n),
+        Ok(n) => print!(rt; " {n}"),
+        Err(e) => show::refused(rt, e),
     }
 }
 
 fn end(rt: &impl Print, settings: Settings, file: &[u8]) -> io::Result<()> {
     match gdb_frames::end_mark(settings, file) {
-        MarkAnswer::Marked => print!(rt; " marked"),
-        MarkAnswer::Unmarked => print!(rt; " no mark"),
-        MarkAnswer::Refused(n) => show::refused(rt, n),
-    }
-}
-
-fn line_answer(rt: &impl Print, answer: LineAnswer) -> io::Result<()> {
-    match answer {
-        LineAnswer::Line {
-            kind,
-            place,
-            length,
-        } => {
-            show::line_kind(rt, kind)?;
-            show::span(rt, place, length)
-        }
-        LineAnswer::Refused(n) => show::refused(rt, n),
+        Ok(true) => print!(rt; " marked"),
+        Ok(false) => print!(rt; " no mark"),
+        Err(e) => show::refused(rt, e),
     }
 }
 
 fn line(rt: &impl Print, settings: Settings, file: &[u8], j: usize) -> io::Result<()> {
-    line_answer(rt, gdb_frames::line_place(settings, file, j))?;
+    match gdb_frames::line_place(settings, file, j) {
+        Ok(line) => {
+            print!(rt; " {}", line.kind)?;
+            show::part(rt, line.part)?;
+        }
+        Err(e) => show::refused(rt, e)?,
+    }
     print!(rt; " \"")?;
     show::text(rt, gdb_frames::line(settings, file, j))?;
     print!(rt; "\"")
@@ -44,20 +34,27 @@ fn line(rt: &impl Print, settings: Settings, file: &[u8], j: usize) -> io::Resul
 // The number in frame n's head.
 fn tracepoint(rt: &impl Print, settings: Settings, file: &[u8], n: usize) -> io::Result<()> {
     match gdb_frames::locate(settings, file, n) {
-        LocatedAnswer::Frame(found) => print!(rt; " {}", found.head.tracepoint),
-        LocatedAnswer::Refused(k) => show::refused(rt, k),
+        Ok(found) => print!(rt; " {}", found.head.tracepoint),
+        Err(e) => show::refused(rt, e),
     }
 }
 
+// Frame n's data, and how many heads were read for it.
 fn frame(rt: &impl Print, settings: Settings, file: &[u8], n: usize) -> io::Result<()> {
-    show::frame(rt, gdb_seek::frame_place(settings, file, n))?;
+    match gdb_seek::frame_place(settings, file, n) {
+        Ok(found) => {
+            show::part(rt, found.part)?;
+            print!(rt; " heads {}", found.heads)?;
+        }
+        Err(e) => show::refused(rt, e)?,
+    }
     show::bytes(rt, gdb_seek::frame_data(settings, file, n))
 }
 
 fn block(rt: &impl Print, settings: Settings, file: &[u8], n: usize, k: usize) -> io::Result<()> {
     match gdb_blocks::block_record(settings, file, n, k) {
-        BlockAnswer::Block(found) => show::block(rt, found),
-        BlockAnswer::Refused(j) => show::refused(rt, j),
+        Ok(found) => show::block(rt, found),
+        Err(e) => show::refused(rt, e),
     }
 }
 
@@ -96,10 +93,10 @@ pub(crate) fn question(
     file: &[u8],
     t: &[u8],
 ) -> io::Result<()> {
-    let first = table::number_after(t, 0);
-    let second = table::number_after(t, first.next);
-    let n = first.value as usize;
-    let x = second.value;
+    let (first, rest) = table::number(t);
+    let (second, _) = table::number(rest);
+    let n = first.unwrap_or(0) as usize;
+    let x = second.unwrap_or(0);
     match table::byte(t, 0) {
         b'c' => count(rt, settings, file),
         b'e' => end(rt, settings, file),

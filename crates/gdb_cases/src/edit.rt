@@ -1,43 +1,36 @@
 // The calls over both files, each with its answer.
 use crate::{pair, selection, show, table};
-use gdb_cut::EditAnswer;
 use gdb_format::Settings;
+use refusals::Refusal;
 use std::io;
 
-// The join of both files, or a cut of the first, into the first `room` bytes of `out`. What is kept stands in `kept`.
+// The join of both files, or a cut of the first, into `out`. What is kept stands in `kept`.
 fn written(
     settings: Settings,
     a: &[u8],
     b: &[u8],
     kept: &[u8],
-    room: usize,
     out: &mut [u8],
-) -> EditAnswer {
-    if out.len() < room {
-        return EditAnswer::Refused(255);
+) -> Result<usize, Refusal> {
+    if kept.is_empty() {
+        return gdb_join::join(settings, a, b, out);
     }
-    let lent = &mut out[..room];
-    if kept.len() == 0 {
-        return gdb_join::join(settings, a, b, lent);
-    }
-    gdb_cut::cut(settings, a, selection::stated(kept), lent)
-}
-
-fn told(rt: &impl Print, answer: EditAnswer) -> io::Result<()> {
-    match answer {
-        EditAnswer::Written(len) => print!(rt; " written {len}"),
-        EditAnswer::Refused(n) => show::refused(rt, n),
-    }
+    gdb_cut::cut(settings, a, selection::stated(kept), out)
 }
 
 // The answer, and the whole output, all A5 before.
 fn edited(rt: &impl Print, settings: Settings, a: &[u8], b: &[u8], t: &[u8]) -> io::Result<()> {
-    let n = table::number_after(t, 0);
-    let room = n.value as usize;
-    let mut out = [165; 256];
-    let kept = table::part(t, n.next, t.len());
-    told(rt, written(settings, a, b, kept, room, &mut out))?;
-    show::bytes(rt, table::part(&out, 0, room))
+    let (n, kept) = table::number(t);
+    let mut all = [165; 256];
+    let Some(out) = all.get_mut(..n.unwrap_or(0) as usize) else {
+        print!(rt; " refused 255")?;
+        return show::bytes(rt, &[]);
+    };
+    match written(settings, a, b, kept, out) {
+        Ok(len) => print!(rt; " written {len}")?,
+        Err(e) => show::refused(rt, e)?,
+    }
+    show::bytes(rt, out)
 }
 
 // cut ROOM SELECTION, join ROOM, opposite SELECTION, and the questions about the pair.

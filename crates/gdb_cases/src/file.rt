@@ -1,115 +1,104 @@
 // Small trace files, built piece by piece.
+ghost use Rattle.std.specs.Prelude.{◌≤◌};
+
 use crate::table;
 
 // The most bytes that a file built here can have.
-pub const ROOM: usize = 256;
+const ROOM: usize = 256;
 
-// The bytes that are the file are the first `len`. A piece that finds no room leaves `len` above ROOM, so that a case
-// can not quietly run on a file that was cut.
+// The bytes that are the file are the first `len`; none where a piece found no room, so that a case can not quietly run on
+// a file that was cut.
 #[derive(Clone, Copy)]
 pub struct File {
-    pub bytes: [u8; 256],
-    pub len: usize,
+    bytes: [u8; ROOM],
+    len: Option<usize>,
 }
 
-pub(crate) fn empty() -> File {
-    File {
-        bytes: [0; 256],
-        len: 0,
-    }
-}
-
-fn with_byte(f: File, b: u8) -> File {
-    let n = f.len;
-    let mut bytes = f.bytes;
-    if n < ROOM {
-        bytes[n] = b;
-        return File { bytes, len: n + 1 };
-    }
-    File {
-        bytes,
-        len: ROOM + 1,
-    }
-}
-
-// Numbers, in the byte order of the case: 1 is big, every other little.
-fn with_u16(f: File, order: u8, x: u16) -> File {
-    let low = (x % 256) as u8;
-    let high = (x / 256) as u8;
-    if order == 1 {
-        return with_byte(with_byte(f, high), low);
-    }
-    with_byte(with_byte(f, low), high)
-}
-
-fn with_u32(f: File, order: u8, x: u32) -> File {
-    let low = (x % 65536) as u16;
-    let high = (x / 65536) as u16;
-    if order == 1 {
-        return with_u16(with_u16(f, order, high), order, low);
-    }
-    with_u16(with_u16(f, order, low), order, high)
-}
-
-fn with_u64(f: File, order: u8, x: u64) -> File {
-    let low = (x % 4294967296) as u32;
-    let high = (x / 4294967296) as u32;
-    if order == 1 {
-        return with_u32(with_u32(f, order, high), order, low);
-    }
-    with_u32(with_u32(f, order, low), order, high)
-}
-
-// The head of every trace.
-fn with_head(f: File) -> File {
-    let two = with_byte(with_byte(f, 127), b'T');
-    let four = with_byte(with_byte(two, b'R'), b'A');
-    let six = with_byte(with_byte(four, b'C'), b'E');
-    with_byte(with_byte(six, b'0'), b'\n')
-}
-
-// The file's first n bytes, of which it has so many.
-fn first(f: File, n: usize) -> File {
-    let bytes = f.bytes;
-    let len = if n <= f.len { n } else { ROOM + 1 };
-    File { bytes, len }
-}
-
-// A byte in two digits.
-fn with_digits(f: File, high: u8, low: u8) -> File {
-    with_byte(f, table::digit(high) % 16 * 16 + table::digit(low) % 16)
-}
-
-// The file with the piece that `t` starts with. Digits and spaces are no piece of their own.
-fn with_piece(f: File, order: u8, t: &[u8]) -> File {
-    let n = table::number_after(t, 0);
-    let x = n.value;
-    match table::byte(t, 0) {
-        b'H' => with_head(f),
-        b'n' => with_byte(f, b'\n'),
-        b'x' => with_digits(f, table::byte(t, 1), table::byte(t, 2)),
-        b'w' => with_u16(f, order, (x % 65536) as u16),
-        b'd' => with_u32(f, order, (x % 4294967296) as u32),
-        b'q' => with_u64(f, order, x),
-        b'c' => first(f, x as usize),
-        _ => f,
-    }
-}
-
-// The file that a line of pieces describes. What stands in quotes is taken as it is.
-pub(crate) fn file_of(order: u8, t: &[u8]) -> File {
-    let mut f = empty();
-    let mut quoted = false;
-    let mut k: usize = 0;
-    while k < t.len() {
-        if t[k] == b'"' {
-            quoted = !quoted;
-        } else if quoted {
-            f = with_byte(f, t[k]);
-        } else {
-            f = with_piece(f, order, table::part(t, k, t.len()));
+impl File {
+    pub(crate) fn empty() -> Self {
+        File {
+            bytes: [0; ROOM],
+            len: Some(0),
         }
-        k += 1;
     }
-    f
+
+    pub(crate) fn has_room(&self) -> bool {
+        self.len.is_some()
+    }
+
+    // The file, or nothing where a piece found no room.
+    pub(crate) fn bytes(&self) -> &[u8] {
+        table::part(&self.bytes, 0, self.len.unwrap_or(0))
+    }
+
+    fn push(&mut self, b: u8) {
+        match self.len {
+            Some(n) if n < ROOM => {
+                self.bytes[n] = b;
+                self.len = Some(n + 1);
+            }
+            _ => self.len = None,
+        }
+    }
+
+    fn push_all(&mut self, bytes: &[u8]) {
+        for b in bytes {
+            self.push(*b);
+        }
+    }
+
+    // The `width` low bytes of a number, in the byte order of the case: 1 is big, every other little.
+    fn push_number(&mut self, order: u8, x: u64, width: usize)
+        requires { width ≤ 8 }
+    {
+        if order == 1 {
+            self.push_all(&x.to_be_bytes()[8 - width..]);
+        } else {
+            self.push_all(&x.to_le_bytes()[..width]);
+        }
+    }
+
+    // A byte in two digits.
+    fn push_digits(&mut self, high: u8, low: u8) {
+        let high = table::digit(high).unwrap_or(0);
+        let low = table::digit(low).unwrap_or(0);
+        self.push(high * 16 + low);
+    }
+
+    // Cuts the file to its first n bytes, of which it has so many.
+    fn cut(&mut self, n: usize) {
+        self.len = (n <= self.len.unwrap_or(ROOM)).then_some(n);
+    }
+
+    // Adds the piece that `t` starts with. Digits and spaces are no piece of their own.
+    fn push_piece(&mut self, order: u8, t: &[u8]) {
+        let (n, _) = table::number(t);
+        let x = n.unwrap_or(0);
+        match table::byte(t, 0) {
+            b'H' => self.push_all(b"\x7fTRACE0\n"),
+            b'n' => self.push(b'\n'),
+            b'x' => self.push_digits(table::byte(t, 1), table::byte(t, 2)),
+            b'w' => self.push_number(order, x, 2),
+            b'd' => self.push_number(order, x, 4),
+            b'q' => self.push_number(order, x, 8),
+            b'c' => self.cut(x as usize),
+            _ => {}
+        }
+    }
+
+    // The file that a line of pieces describes. What stands in quotes is taken as it is.
+    pub(crate) fn of(order: u8, t: &[u8]) -> Self {
+        let mut f = File::empty();
+        let mut quoted = false;
+        for (k, b) in t.iter().enumerate() {
+            if *b == b'"' {
+                quoted = !quoted;
+            } else if quoted {
+                f.push(*b);
+            } else {
+                f.push_piece(order, table::part(t, k, t.len()));
+            }
+        }
+        f
+    }
 }

@@ -1,23 +1,20 @@
 // Memory of the largest length, 65,535, in a file of 65,561 bytes: too long for the table.
-use crate::{file, show, steps, table};
+use crate::file::File;
+use crate::{show, steps, table};
 use std::io;
 
-// A built file's bytes with 0s behind them.
-fn extended(bytes: [u8; 256]) -> [u8; 65561] {
+// A file's bytes with 0s behind them.
+fn extended(bytes: &[u8]) -> [u8; 65561] {
     let mut all = [0; 65561];
-    let mut k: usize = 0;
-    while k < 256 {
-        all[k] = bytes[k];
-        k += 1;
+    for (to, from) in all.iter_mut().zip(bytes) {
+        *to = *from;
     }
     all
 }
 
 // The file's first `len` bytes, all 0 behind the pieces.
 fn memory(rt: &impl Print, order: u8, pieces: &[u8], len: usize) -> io::Result<()> {
-    let f = file::file_of(order, pieces);
-    let bytes = f.bytes;
-    let all = extended(bytes);
+    let all = extended(File::of(order, pieces).bytes());
     show::text(rt, pieces)?;
     print!(rt; " and 0s up to byte {len}:")?;
     let settings = gdb_format::default_settings(order);

@@ -2,19 +2,20 @@
 use crate::{show, table};
 use gdb_format::Settings;
 use gdb_pair::PairPlace;
+use refusals::Refusal;
 use std::io;
 
-fn place(rt: &impl Print, answer: PairPlace) -> io::Result<()> {
+fn place(rt: &impl Print, answer: Result<PairPlace, Refusal>) -> io::Result<()> {
     match answer {
-        PairPlace::First { place, length } => {
+        Ok(PairPlace::First(part)) => {
             print!(rt; " first")?;
-            show::span(rt, place, length)
+            show::part(rt, part)
         }
-        PairPlace::Second { place, length } => {
+        Ok(PairPlace::Second(part)) => {
             print!(rt; " second")?;
-            show::span(rt, place, length)
+            show::part(rt, part)
         }
-        PairPlace::Refused(n) => show::refused(rt, n),
+        Err(e) => show::refused(rt, e),
     }
 }
 
@@ -37,10 +38,10 @@ pub(crate) fn asked<'a>(
     b: &'a [u8],
     t: &[u8],
 ) -> io::Result<()> {
-    let first = table::number_after(t, 0);
-    let second = table::number_after(t, first.next);
-    let n = first.value as usize;
-    let number = (second.value % 4294967296) as u32;
+    let (first, rest) = table::number(t);
+    let (second, _) = table::number(rest);
+    let n = first.unwrap_or(0) as usize;
+    let number = (second.unwrap_or(0) % 4294967296) as u32;
     match table::byte(t, 0) {
         b'p' => frame(rt, settings, a, b, n),
         b'v' => show::value(rt, gdb_pair::pair_variable(settings, a, b, n, number)),

@@ -1,13 +1,13 @@
 // What a row gives: the first file, the second, and the settings of the calls. `order` is the run's.
-use crate::file::{File, ROOM};
-use crate::{file, table};
+use crate::file::File;
+use crate::table;
 use gdb_format::Settings;
 use std::io;
 
 // The file of the row's pieces. One that finds no room is told at once.
 fn built(rt: &impl Print, order: u8, t: &[u8]) -> io::Result<File> {
-    let f = file::file_of(order, t);
-    if ROOM < f.len {
+    let f = File::of(order, t);
+    if !f.has_room() {
         print!(rt; " no room")?;
     }
     Ok(f)
@@ -31,8 +31,8 @@ pub(crate) fn second(rt: &impl Print, f: File, order: u8, t: &[u8]) -> io::Resul
 
 // The settings that are given: each first file states them anew.
 pub(crate) fn given(before: Settings, order: u8, t: &[u8]) -> Settings {
-    let stated = table::number_after(t, 0);
-    let number = (stated.value % 256) as u8;
+    let (stated, _) = table::number(t);
+    let number = (stated.unwrap_or(0) % 256) as u8;
     match table::byte(t, 0) {
         b'=' | b'+' | b'?' => gdb_format::default_settings(order),
         b'!' => gdb_format::default_settings(number),

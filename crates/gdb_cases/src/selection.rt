@@ -3,42 +3,27 @@ use crate::table;
 use gdb_select::{Range, Selection};
 use std::io;
 
-// A range, and the place after its numbers.
-#[derive(Clone, Copy)]
-struct RangeStep {
-    range: Range,
-    next: usize,
-}
-
-fn range_at(t: &[u8], at: usize) -> RangeStep {
-    let low = table::number_after(t, at);
-    let high = table::number_after(t, low.next);
+// A range, 0..0 where none is stated, and what stands behind its numbers.
+fn range_at(t: &[u8]) -> (Range, &[u8]) {
+    let (low, rest) = table::number(t);
+    let (high, rest) = table::number(rest);
     let range = Range {
-        low: (low.value % 65536) as u16,
-        high: (high.value % 65536) as u16,
+        low: (low.unwrap_or(0) % 65536) as u16,
+        high: (high.unwrap_or(0) % 65536) as u16,
     };
-    RangeStep {
-        range,
-        next: high.next,
-    }
+    (range, rest)
 }
 
 // The selection that `t` states after a space: keep COUNT LOW..HIGH .., or drop likewise; a range that is not stated is 0..0.
 pub(crate) fn stated(t: &[u8]) -> Selection {
-    let count = table::number_after(t, 0);
-    let mut at = count.next;
+    let (count, mut rest) = table::number(t);
     let mut ranges = [Range { low: 0, high: 0 }; 8];
-    let mut k: usize = 0;
-    while k < 8 {
-        let step = range_at(t, at);
-        let range = step.range;
-        ranges[k] = range;
-        at = step.next;
-        k += 1;
+    for r in &mut ranges {
+        (*r, rest) = range_at(rest);
     }
     Selection {
         ranges,
-        count: count.value as usize,
+        count: count.unwrap_or(0) as usize,
         keep: table::byte(t, 1) == b'k',
     }
 }

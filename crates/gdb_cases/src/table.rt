@@ -1,79 +1,41 @@
 // The table's rows: their bytes, parts and numbers.
-ghost use Rattle.std.specs.Prelude.{◌≤◌};
+ghost use Rattle.std.specs.Prelude.{◌<◌, IfSome};
 
 // Byte k; 0 past the end.
 pub(crate) fn byte(t: &[u8], k: usize) -> u8 {
-    if k < t.len() {
-        return t[k];
-    }
-    0
+    t.get(k).copied().unwrap_or(0)
 }
 
 // What stands from place k on, up to `end`; nothing where that is no part.
 pub(crate) fn part(t: &[u8], k: usize, end: usize) -> &[u8] {
-    if end <= t.len() {
-        if k <= end {
-            return &t[k..end];
-        }
-    }
-    &t[..0]
+    t.get(k..end).unwrap_or(&[])
 }
 
-// The place of the first 0A from `from` on, or the end.
-pub(crate) fn line_end(t: &[u8], from: usize) -> usize
-    ensures { from ≤ result }
-{
-    let mut k = from;
-    while k < t.len() {
-        if t[k] == b'\n' {
-            return k;
-        }
-        k += 1;
-    }
-    k
-}
-
-// A number and the place after its digits; 0 where there is none.
-#[derive(Clone, Copy)]
-pub struct Number {
-    pub value: u64,
-    pub found: bool,
-    pub next: usize,
-}
-
-// A decimal digit's value, or a hexadecimal one's; 16 for other bytes.
-pub(crate) fn digit(b: u8) -> u8
-    ensures { result ≤ 16 }
+// A hexadecimal digit's value.
+pub(crate) fn digit(b: u8) -> Option<u8>
+    ensures { IfSome result (λ d. d < 16) }
 {
     match b {
-        48..=57 => b - 48,
-        65..=70 => b - 55,
-        _ => 16,
+        b'0'..=b'9' => Some(b - b'0'),
+        b'A'..=b'F' => Some(b - b'A' + 10),
+        _ => None,
     }
 }
 
-// The first decimal number from `from` on. One above 2^64 - 1 is no case of the table.
-pub(crate) fn number_after(t: &[u8], from: usize) -> Number {
+// The first decimal number, if there is one, and what stands behind its digits. One above 2^64 - 1 is no case of the table.
+pub(crate) fn number(t: &[u8]) -> (Option<u64>, &[u8]) {
+    let Some(start) = t.iter().position(|b| b.is_ascii_digit()) else {
+        return (None, &[]);
+    };
+    let found = &t[start..];
+    let end = found
+        .iter()
+        .position(|b| !b.is_ascii_digit())
+        .unwrap_or(found.len());
+    let (digits, behind) = found.split_at(end);
     let mut value: u64 = 0;
-    let mut found = false;
-    let mut k = from;
-    while k < t.len() {
-        let d = digit(t[k]);
-        if d < 10 {
-            value = std::num::wrapping_add_u64(value % 1844674407370955162 * 10, d as u64);
-            found = true;
-        } else if found {
-            return Number {
-                value,
-                found,
-                next: k,
-            };
-        }
-        k += 1;
+    for b in digits {
+        value = (value % 1844674407370955162 * 10).wrapping_add(u64::from(b.wrapping_sub(b'0')));
     }
-    Number {
-        value,
-        found,
-        next: k,
-    }
+    (Some(value), behind)
 }

@@ -1,12 +1,19 @@
-// Reading input into memory that the caller lends.
+// Room for input, and reading into it.
 #![tactic(auto)]
 
-ghost use Rattle.std.specs.Prelude.{ℕ, ◌<◌, ◌≤◌, IfOk, IfErr, length, take};
+ghost use Rattle.std.specs.Prelude.{◌≡◌, ℕ, ◌<◌, ◌≤◌, IfOk, IfErr, length, replicate, take};
 ghost use Rattle.std.specs.Io.{ReadsAtMost};
 ghost use Rattle.std.specs.Io.KnownBytes.{Consumes, IsAtEnd};
 
 use std::io;
 use std::io::Read;
+
+// Room for N bytes, all 0. That it says the length keeps the prover from counting the elements.
+pub fn room<const N: usize>() -> [u8; N]
+    ensures { result ≡ replicate N 0 }
+{
+    [0; N]
+}
 
 // Reads until `room` is full or the input ends, and answers how many bytes now stand at its front. Where the input fails, what was read before it
 // stands there.
