@@ -2,8 +2,6 @@
 // each section, and each CPU's range. A refusal prints `refused` and its number.
 #![tactic(auto)]
 
-ghost use Rattle.std.specs.Prelude.{◌≡◌, length};
-
 use dat_read::summary::{EndingKind, Flags, Part, Summary};
 use fields::Order;
 use refusals::TOO_LONG;
@@ -12,14 +10,6 @@ use tracedat::{RangeAnswer, SummaryAnswer};
 
 // The longest file that is listed, the program's own limit.
 const LIMIT: usize = 131072;
-
-// Room for it, and for one byte more, which tells that input goes on. The `ensures` keeps the prover from counting the array's
-// elements.
-fn input_room() -> [u8; 131073]
-    ensures { 131073 ≡ length result }
-{
-    [0; 131073]
-}
 
 fn refused(rt: &impl Print, n: u8) -> io::Result<()> {
     println!(rt; "refused {n}")
@@ -99,7 +89,8 @@ fn listed(rt: &impl Print, file: &[u8]) -> io::Result<()> {
 }
 
 fn main(rt: HostRuntime) -> io::Result<()> {
-    let mut input = input_room();
+    // One byte more tells that input goes on.
+    let mut input = input::room::<131073>();
     let n = input::read_full(&mut rt.stdin(), &mut input)?;
     if LIMIT < n {
         refused(&rt, TOO_LONG)

@@ -7,21 +7,6 @@ ghost use Rattle.gdb_listing.specs.Text.{text, listed};
 use gdb_listing::ListingAnswer;
 use std::io;
 
-// The longest file that is listed, and one byte more, which tells that input goes on. The `ensures` keeps the prover from
-// counting the array's elements.
-fn input_room() -> [u8; 65537]
-    ensures { 65537 ≡ length result }
-{
-    [0; 65537]
-}
-
-// Room for every listing: 18 bytes, and 3 for each of the 65,536.
-fn output_room() -> [u8; 196626]
-    ensures { 196626 ≡ length result }
-{
-    [0; 196626]
-}
-
 // The listing of `file` at the front of `output`, and its length.
 fn put_listing(file: &[u8], output: &mut [u8]) -> usize
     requires { 196626 ≤ length output.old }
@@ -35,9 +20,11 @@ fn put_listing(file: &[u8], output: &mut [u8]) -> usize
 }
 
 fn main(rt: HostRuntime) -> io::Result<()> {
-    let mut input = input_room();
+    // The longest file that is listed, and one byte more, which tells that input goes on.
+    let mut input = input::room::<65537>();
     let n = input::read_full(&mut rt.stdin(), &mut input)?;
-    let mut output = output_room();
+    // Room for every listing: 18 bytes, and 3 for each of the 65,536.
+    let mut output = input::room::<196626>();
     let k = put_listing(&input[..n], &mut output);
     rt.write_all(&output[..k])
 }

@@ -16,8 +16,6 @@
 // The questions stand in ask.rt and steps.rt. Marks between a row's numbers are for the reader.
 #![tactic(auto)]
 
-ghost use Rattle.std.specs.Prelude.{◌≡◌, length};
-
 mod ask;
 mod edit;
 mod file;
@@ -62,31 +60,21 @@ fn answered(
     settings: Settings,
     t: &[u8],
 ) -> io::Result<()> {
-    let one = first.bytes;
-    let other = second.bytes;
-    let a = table::part(&one, 0, first.len);
-    let b = table::part(&other, 0, second.len);
-    asked(rt, settings, a, b, t)
+    asked(rt, settings, first.bytes(), second.bytes(), t)
 }
 
 fn run(rt: &impl Print, order: u8, t: &[u8]) -> io::Result<()> {
-    let mut first = file::empty();
-    let mut second = file::empty();
+    let mut first = File::empty();
+    let mut second = File::empty();
     let mut given = gdb_format::default_settings(order);
-    let mut at: usize = 0;
-    while at < t.len() {
-        let end = table::line_end(t, at);
-        let row = table::part(t, at, end);
+    for line in t.split_inclusive(|b| *b == b'\n') {
+        let row = line.strip_suffix(b"\n").unwrap_or(line);
         show::text(rt, row)?;
         first = row::first(rt, first, order, row)?;
         second = row::second(rt, second, order, row)?;
         given = row::given(given, order, row);
         answered(rt, first, second, given, row)?;
         println!(rt)?;
-        at = end;
-        if end < t.len() {
-            at = end + 1;
-        }
     }
     Ok(())
 }
@@ -98,15 +86,8 @@ fn tried(rt: &impl Print, order: u8, t: &[u8]) -> io::Result<()> {
     large::memories(rt, order)
 }
 
-// Room for the table. The `ensures` keeps the prover from counting the array's elements.
-fn input_room() -> [u8; 65536]
-    ensures { 65536 ≡ length result }
-{
-    [0; 65536]
-}
-
 fn main(rt: HostRuntime) -> io::Result<()> {
-    let mut buf = input_room();
+    let mut buf = input::room::<65536>();
     let n = input::read_full(&mut rt.stdin(), &mut buf)?;
     tried(&rt, 0, &buf[..n])?;
     tried(&rt, 1, &buf[..n])

@@ -1,10 +1,13 @@
-// Reading input into memory that the caller lends.
+// Reading input into memory that the caller lends, and such memory.
 #![tactic(auto)]
 
 ghost use Rattle.std.specs.Prelude.{ℕ, ◌<◌, ◌≤◌, IfOk, IfErr, length, take};
 ghost use Rattle.std.specs.Io.{ReadsAtMost};
 ghost use Rattle.std.specs.Io.KnownBytes.{Consumes, IsAtEnd};
 
+mod memory;
+
+pub use memory::room;
 use std::io;
 use std::io::Read;
 
