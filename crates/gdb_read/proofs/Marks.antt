@@ -16,7 +16,5 @@ not_four d h = by (same_bytes d mark) refl
     by false e = refl
 
 module _ (s : List ℕ) (at : ℕ) where
-
   pub mark-other : (length s - at ≡ 4 → ⊥) → false ≡ same_bytes (drop at s) mark
   mark-other h = not_four (drop at s) (λ e. h (sym (length-drop at s) ∙ e))
-
