@@ -7,10 +7,10 @@ from contracts import ROOT, conversions, enums, fields_of, functions_in, public_
 FUNCTIONS = public_functions()
 # The function that the programs read by: what comes from outside, and when reading fails, no equation can say.
 READING = 'read_full'
-# An answer is a `Result`, an `Option`, or an enum with values; an enum without, as a line's kind, is its own meaning.
+# An answer is a `Result` with a refusal, an `Option`, or an enum with values; an enum without, as a line's kind, is its own meaning.
 VALUES = re.compile(r'[({]')
-ANSWER = re.compile(r'\b(?:Result|Option)<')
-MEANING = re.compile(r'\b(?:\w*[mM]eaning|answer_of|held) \(?result\b')
+ANSWER = re.compile(r', Refusal>|\bOption<')
+MEANING = re.compile(r'\b(?:\w*[mM]eaning|answer_of|answer_by \S+|held) \(?result\b')
 
 
 class Contracts(unittest.TestCase):
