@@ -6,7 +6,7 @@ ghost use Rattle.fields.specs.Answer.{accepted};
 ghost use Rattle.fields.specs.Meaning.{answer_of};
 ghost use Rattle.gdb_frames.specs.Places.{part_named};
 ghost use Rattle.gdb_frames.specs.Questions.{asked, frame_count, end_mark, line_at, line_place, Handed};
-ghost use Rattle.gdb_frames.specs.Questions.{place_meaning, line_meaning};
+ghost use Rattle.gdb_frames.specs.Questions.{part_given, place_meaning, line_meaning};
 ghost use Rattle.gdb_frames.specs.Nth.{nth_head, nth_line};
 ghost use Rattle.gdb_frames.specs.Located.{located_meaning, frame_located};
 ghost use Rattle.gdb_read.specs.Steps.{frame_meaning};
@@ -39,7 +39,7 @@ pub struct Part {
 
 impl Part {
     // The bytes there; none where they are not all in the file.
-    fn bytes(self, file: &[u8]) -> &[u8]
+    pub fn bytes(self, file: &[u8]) -> &[u8]
         ensures { result.now ≡ part_named file.now (accepted (self.place, self.length)) }
     {
         if file.len() < self.place || file.len() - self.place < self.length {
@@ -49,9 +49,9 @@ impl Part {
     }
 }
 
-// The part of the file that an answer names; empty where it refuses, and where it names none of the file.
-pub fn part_of(file: &[u8], answer: Result<Part, Refusal>) -> &[u8]
-    ensures { result.now ≡ part_named file.now (place_meaning answer) }
+// The part of the file that an answer names; empty where it refuses, whatever the refusal is, and where it names none of the file.
+pub fn part_of<E: Drop>(file: &[u8], answer: Result<Part, E>) -> &[u8]
+    ensures { result.now ≡ part_given file.now answer }
 {
     match answer {
         Ok(part) => part.bytes(file),
@@ -142,8 +142,8 @@ pub fn line_place(settings: Settings, file: &[u8], j: usize) -> Result<Descripti
 pub fn line(settings: Settings, file: &[u8], j: usize) -> &[u8]
     ensures { Handed file.now (asked settings file.now (line_place j)) result.now }
 {
-    match line_place(settings, file, j) {
-        Ok(line) => line.part.bytes(file),
-        Err(_) => &file[..0],
-    }
+    let Ok(line) = line_place(settings, file, j) else {
+        return &file[..0];
+    };
+    line.part.bytes(file)
 }

@@ -55,8 +55,8 @@ pub fn pair_frame<'a>(settings: Settings, first: &'a [u8], second: &'a [u8], n: 
     ensures { HandedPair first.now second.now (pair_place settings first.now second.now n) result.now }
 {
     match pair_place(settings, first, second, n) {
-        Ok(PairPlace::First(part)) => gdb_frames::part_of(first, Ok(part)),
-        Ok(PairPlace::Second(part)) => gdb_frames::part_of(second, Ok(part)),
+        Ok(PairPlace::First(part)) => part.bytes(first),
+        Ok(PairPlace::Second(part)) => part.bytes(second),
         Err(_) => &first[..0],
     }
 }

@@ -11,17 +11,17 @@ returns-in-Ok-First c =
     let p = c.in-Ok-First.part in
     let h : pair_place_meaning (Ok (First p)) ≡ pair_place c.args.settings c.args.first.now c.args.second.now c.args.n =
     ap (λ x. pair_place_meaning (Ok x)) (sym c.in-Ok-First.field-0-is) ∙ c.in-Ok-First.ensures in
-    handed_first c.args.settings c.args.first.now c.args.second.now c.part_of.result.now c.args.n (p.place, p.length)
+    handed_first c.args.settings c.args.first.now c.args.second.now c.bytes.result.now c.args.n (p.place, p.length)
     (bytes-given c.args.first.now c.type_inv.first)
     (bytes-given c.args.second.now c.type_inv.second)
-    h c.part_of.ensures
+    h c.bytes.ensures
 
 pub returns-in-Ok-Second : goal.returns-in-Ok-Second
 returns-in-Ok-Second c =
     let p = c.in-Ok-Second.part in
     let h : pair_place_meaning (Ok (Second p)) ≡ pair_place c.args.settings c.args.first.now c.args.second.now c.args.n =
     ap (λ x. pair_place_meaning (Ok x)) (sym c.in-Ok-Second.field-0-is) ∙ c.in-Ok-Second.ensures in
-    handed_second c.args.settings c.args.first.now c.args.second.now c.part_of-in-Ok-Second.result.now c.args.n (p.place, p.length)
+    handed_second c.args.settings c.args.first.now c.args.second.now c.bytes-in-Ok-Second.result.now c.args.n (p.place, p.length)
     (bytes-given c.args.first.now c.type_inv.first)
     (bytes-given c.args.second.now c.type_inv.second)
-    h c.part_of-in-Ok-Second.ensures
+    h c.bytes-in-Ok-Second.ensures
