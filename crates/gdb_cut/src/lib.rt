@@ -35,8 +35,8 @@ impl<'a> Iterator for KeptFrames<'a> {
     // Put into both loops: a call would cost some 30 instructions a frame.
     #[inline(always)]
     fn next(&mut self) -> Option<&'a [u8]> {
-        // None of these heads is refused.
-        while let Some(step) = gdb_read::head_at(self.format, self.file, self.at).unwrap() {
+        // None of these heads is refused. (An unwrap would leave a trap in the library.)
+        while let Ok(Some(step)) = gdb_read::head_at(self.format, self.file, self.at) {
             let from = self.at;
             self.at = step.next;
             if gdb_select::is_selected(self.selection, step.head.tracepoint) {

@@ -16,6 +16,8 @@ use gdb_read::{FrameHead, FrameStep};
 use refusals::{LIMIT, Refusal};
 
 // The frame whose head stands at `at`, its blocks not looked at; the end mark counts as the end, and so as no frame.
+// Put into the walk: a call would cost some 16 instructions a head.
+#[inline(always)]
 fn frame_there(format: Format, s: &[u8], at: usize) -> Result<FrameStep, Refusal>
     ensures { step_meaning result ≡ frame_there format s.now at }
 {
