@@ -20,10 +20,10 @@ KNOWN_WORDS = set('add sub mul udiv sdiv urem srem shl lshr ashr and or xor icmp
                   'source_filename target datalayout triple define declare internal attributes void ptr null i1 i8 i16 i32 i64 x to label true false '
                   'align byval noundef zeroext noinline nounwind nocallback nofree willreturn memory argmem write readwrite readonly writeonly captures none immarg '
                   'private unnamed_addr constant c zeroinitializer !llvm.ident !noundef !range '
-                  # where code is put, and nothing of what it does
-                  'alwaysinline'.split())
+                  # where code is put; a stop behind what the proof excludes, of which the archives have none (tests/archive)
+                  'alwaysinline cold noreturn inaccessiblemem'.split())
 # Vectors, stored data but for constant bytes, names of elsewhere; a short struct that x86-64 has on its stack and RISC-V in registers.
-UNKNOWN = re.compile(r'<\d+ x |^@(?!\S+ = private unnamed_addr constant \[\d+ x i8\] (?:c""|zeroinitializer), align 1$).*|^declare (?!.*@llvm\.mem(?:move|cpy|set)\.p0\.).*|byval\(\[(?:\d|1[0-6]) x i8\]\)', re.M)
+UNKNOWN = re.compile(r'<\d+ x |^@(?!\S+ = private unnamed_addr constant \[\d+ x i8\] (?:c""|zeroinitializer), align 1$).*|^declare (?!.*@llvm\.(?:mem(?:move|cpy|set)\.p0\.|trap\(\))).*|byval\(\[(?:\d|1[0-6]) x i8\]\)', re.M)
 AS_TEXT = ['--target=x86_64-unknown-linux-gnu', '-S', '-emit-llvm', '-Xclang', '-disable-llvm-passes', *COMPILE[1:]]
 
 
