@@ -15,7 +15,7 @@ ARCHIVE = Path(os.environ.get('TUFAKPENI_ARCHIVE') or ROOT / 'crates/trace_c/out
 
 FUNCTION = re.compile(r'^[0-9a-f]+ <(.*)>:$')
 INSTRUCTION = re.compile(r'^ *[0-9a-f]+:\t(.*)$')
-NAMED = re.compile(r'<[^>]*>')
+NAMED = re.compile(r'<.*>')
 # div, idiv, divss, vdivpd, fdiv, fidiv, fprem and their like, behind any prefix, and reciprocals. What cannot be told counts too.
 DIVIDES = re.compile(r'div|rem|rcp|\(bad\)')
 # The map of units is filled with zeros by it (dat_ranges::all_apart).

@@ -24,7 +24,7 @@ BASE = BRANCHES | STORES | set('lui auipc jal jalr lb lh lw ld lbu lhu lwu addi 
                                'add sub sll slt sltu xor srl sra or and addw subw sllw srlw sraw'.split())
 ZMMUL = set('mul mulh mulhsu mulhu mulw'.split())
 # The raw instruction tells its length: four bytes, or two where it is compressed.
-INSTRUCTION = re.compile(r'^ *([0-9a-f]+):\t([0-9a-f]+) +\t(\S+)(?:\t([^\t<]*?))?(?: *<([^>]+)>)?(?: *#.*)?$')
+INSTRUCTION = re.compile(r'^ *([0-9a-f]+):\t([0-9a-f]+) +\t(\S+)(?:\t([^\t<]*?))?(?: *<(.+)>)?(?: *#.*)?$')
 SECTION = re.compile(r'^ *\d+ (\S+) +([0-9a-f]+) .*\bALLOC\b(.*)$', re.M)
 CODE = 'READONLY, CODE'
 BELOW = re.compile(r'-\d+\(x2\)')
@@ -88,15 +88,22 @@ def linked(archive, folder):
 
 def constant(before, register):
     """The number that the instructions right before have put into a register."""
-    low = 0
+    changes = []
     for name, operands in reversed(before):
-        if name in ('addi', 'addiw') and operands.startswith(f'{register},{register},'):
-            low += int(operands.split(',')[2])
-        elif name == 'lui' and operands.startswith(f'{register},'):
+        to, *rest = operands.split(',')
+        if to == register and name in ('addi', 'addiw', 'slli') and rest[0] == register:
+            changes.append((name, int(rest[1], 0)))
+            continue
+        if to == register and name == 'lui':
             # 20 bits, the highest of which is the sign.
-            return ((int(operands.split(',')[1], 16) ^ 0x80000) - 0x80000 << 12) + low
+            number = (int(rest[0], 16) ^ 0x80000) - 0x80000 << 12
+        elif to == register and name == 'addi' and rest[0] == 'x0':
+            number = int(rest[1])
         else:
             break
+        for change, by in reversed(changes):
+            number = number << by if change == 'slli' else number + by
+        return number
     raise ValueError(f'the stack is moved by {register}, which is computed')
 
 

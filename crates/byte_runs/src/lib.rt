@@ -15,9 +15,17 @@ pub fn copy(src: &[u8], dst: &mut [u8]) -> usize
     n
 }
 
-// Whether two runs hold the same bytes.
+// Whether two runs hold the same bytes. By `==` of std, which goes by wide registers, the handset's library would be a twentieth longer.
 pub fn same<'a>(a: &'a [u8], b: &'a [u8]) -> bool
     ensures { IsTrue result ↔ a.now ≡ b.now }
 {
-    a == b
+    if a.len() != b.len() {
+        return false;
+    }
+    for i in 0..a.len() {
+        if a[i] != b[i] {
+            return false;
+        }
+    }
+    true
 }
