@@ -19,7 +19,8 @@ use refusals::Refusal;
 // Each step but the last answers the place after what it read.
 // File, byte order and place stay three arguments, as the public steps have them: a struct of them would be built in each of those, and is no plainer.
 
-// A fixed string at `at`, an 8-byte size, and that many bytes.
+// A fixed string at `at`, an 8-byte size, and that many bytes. Put into both calls, so that the library stores neither word.
+#[inline(always)]
 fn piece_at<'a>(s: &'a [u8], order: Order, word: &'a [u8], at: usize) -> Result<usize, Refusal>
     ensures { step_meaning result ≡ pass_at (after word.now (sized order 8)) s.now at }
 {
