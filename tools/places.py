@@ -158,7 +158,7 @@ def short(rows):
     by = defaultdict(lambda: defaultdict(int))
     for r in rows:
         for one in r.split("; crates/") if ": crates/" not in r else [r.split(": crates/", 1)[1]]:
-            m = re.match(r"(?:crates/)?(\w+)/\S*\s(\S+?)(?::|;|$|\s)", one)
+            m = re.match(r"(?:crates/)?(\w+)/\S*\s(\S+?)(?::?\s|;|:?$)", one)
             if m:
                 by[m[1]][m[2]] += 1
     return [f"{c}: " + ", ".join(n + (f" ({k})" if k > 1 else "") for n, k in names.items()) for c, names in by.items()]
@@ -178,8 +178,14 @@ def part(title, rows):
     TOTALS.append((title, len(rows)))
 
 
+def owner(x):
+    """The type of the impl that a function stands in: `KeptFrames` of `<'a> Iterator for KeptFrames<'a>`."""
+    t = re.sub(r"^<[^>]*>\s*", "", getattr(x, "owner", ""))
+    return re.sub(r"<.*$", "", t.split(" for ")[-1]).strip()
+
+
 def at(x, more="", line=None):
-    name = f"{x.owner}::{x.name}" if getattr(x, "owner", "") else x.name
+    name = f"{owner(x)}::{x.name}" if owner(x) else x.name
     return f"{x.path}:{line or x.line} {name}" + (f": {more}" if more else "")
 
 

@@ -6,8 +6,9 @@ from header import ROOT
 STRUCT = re.compile(r'#\[repr\(C\)\]\s*(?:#\[[^\]]*\]\s*)*(?:pub )?struct (\w+) \{([^}]*)\}')
 CALL = re.compile(r'\bfn (tfk_\w+)\(([^)]*)\) -> (\w+)')
 MEMBER = re.compile(r'(?:pub )?(\w+): ([^,;]+(?:; \d+\])?),?')
-CONSTANT = re.compile(r'^pub const (\w+): u8 = (\d+);$', re.M)
-VARIANT = re.compile(r'^    (\w+) = (\d+),$', re.M)
+CASES = re.compile(r'\benum Refusal \{(.*?)\n\}', re.S)
+CASE = re.compile(r'^    (\w+)(?: = (\d+))?,$', re.M)
+ARM = re.compile(r'Refusal::(\w+) => (\d+),')
 NUMBERS = {
     'u8': 'uint8_t', 'u16': 'uint16_t', 'u32': 'uint32_t', 'u64': 'uint64_t', 'i64': 'int64_t', 'usize': 'size_t',
 }
@@ -60,7 +61,8 @@ def declared(*sources):
 
 
 def refusals(source):
-    """The refusals that a file declares, as constants or as the cases of an enum: each one's name in the header and its number."""
+    """Each refusal's name in the header and its number: the one that stands with the case or in an arm of the function for it, else its place, from 1 on."""
     text = (ROOT / source).read_text()
-    variants = [(words(name).upper(), number) for name, number in VARIANT.findall(text)]
-    return once([(f'TFK_{name}', int(number)) for name, number in CONSTANT.findall(text) + variants])
+    arms = dict(ARM.findall(text))
+    cases = CASE.findall(CASES.search(text)[1])
+    return once([(f'TFK_{words(name).upper()}', int(number or arms.get(name, place))) for place, (name, number) in enumerate(cases, 1)])
