@@ -2,6 +2,8 @@
 // each section, and each CPU's range. A refusal prints `refused` and its number.
 #![tactic(auto)]
 
+ghost use Rattle.std.specs.Prelude.{◌≡◌, length};
+
 use dat_read::summary::{EndingKind, Flags, Part, Summary};
 use fields::Order;
 use refusals::Refusal;
@@ -9,6 +11,13 @@ use std::{fmt, io};
 
 // The longest file that is listed, the program's own limit.
 const LIMIT: usize = 131072;
+
+// Room for it, and for one byte more, which tells that input goes on.
+fn input_room() -> [u8; 131073]
+    ensures { 131073 ≡ length result }
+{
+    input::room()
+}
 
 // A section's place and size.
 #[derive(Clone, Copy)]
@@ -81,8 +90,7 @@ fn listed(rt: &impl Print, file: &[u8]) -> io::Result<()> {
 }
 
 fn main(rt: HostRuntime) -> io::Result<()> {
-    // One byte more tells that input goes on.
-    let mut input = input::room::<131073>();
+    let mut input = input_room();
     let n = input::read_full(&mut rt.stdin(), &mut input)?;
     if LIMIT < n {
         println!(&rt; "refused {}", Refusal::TooLong)

@@ -11,11 +11,17 @@ use refusals::Refusal;
 
 // Each step here answers the place after what it read.
 
-// n bytes at `at`; behind the file's end stands what stands at its end.
+// n bytes at `at`; behind the file's end stands what stands at its end. By a test of its own: a walk's next step would wait for the smaller of both.
 pub fn bytes_at(s: &[u8], at: usize, n: usize) -> Result<usize, Refusal>
     ensures { step_meaning result ≡ pass_at (bytes n field_past_file) s.now at }
 {
-    let at = at.min(s.len());
+    if s.len() < at {
+        return if n == 0 {
+            Ok(s.len())
+        } else {
+            Err(Refusal::FieldPastFile)
+        };
+    }
     if s.len() - at < n {
         return Err(Refusal::FieldPastFile);
     }

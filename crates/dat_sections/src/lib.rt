@@ -45,7 +45,8 @@ fn counted_at<F: Fn(usize) -> Result<usize, Refusal>>(
     Ok(next)
 }
 
-// A count at `at`, and that many formats.
+// A count at `at`, and that many formats. Put into both calls: as a call it would take most of the time of systems with few formats.
+#[inline(always)]
 fn formats_at(s: &[u8], order: Order, at: usize) -> Result<usize, Refusal>
     ensures { step_meaning result ≡ pass_at (counted order (sized order 8)) s.now at }
 {
@@ -74,7 +75,8 @@ fn system_at(s: &[u8], order: Order, at: usize) -> Result<usize, Refusal>
     formats_at(s, order, formats)
 }
 
-// A count at `at`, and that many systems.
+// A count at `at`, and that many systems. A call of its own, so that the walk over names and formats has the registers to itself.
+#[inline(never)]
 fn systems_at(s: &[u8], order: Order, at: usize) -> Result<usize, Refusal>
     ensures { step_meaning result ≡ pass_at (counted order (system order)) s.now at }
 {

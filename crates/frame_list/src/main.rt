@@ -6,6 +6,20 @@ ghost use Rattle.gdb_listing.specs.Text.{text, listed};
 
 use std::io;
 
+// The longest file that is listed, and one byte more, which tells that input goes on.
+fn input_room() -> [u8; 65537]
+    ensures { 65537 ≡ length result }
+{
+    input::room()
+}
+
+// Room for every listing: 18 bytes, and 3 for each of the 65,536.
+fn output_room() -> [u8; 196626]
+    ensures { 196626 ≡ length result }
+{
+    input::room()
+}
+
 // The listing of `file` at the front of `output`, and its length: there is room for it, so it is not refused.
 fn put_listing(file: &[u8], output: &mut [u8]) -> usize
     requires { 196626 ≤ length output.old }
@@ -15,11 +29,9 @@ fn put_listing(file: &[u8], output: &mut [u8]) -> usize
 }
 
 fn main(rt: HostRuntime) -> io::Result<()> {
-    // The longest file that is listed, and one byte more, which tells that input goes on.
-    let mut input = input::room::<65537>();
+    let mut input = input_room();
     let n = input::read_full(&mut rt.stdin(), &mut input)?;
-    // Room for every listing: 18 bytes, and 3 for each of the 65,536.
-    let mut output = input::room::<196626>();
+    let mut output = output_room();
     let k = put_listing(&input[..n], &mut output);
     rt.write_all(&output[..k])
 }

@@ -16,6 +16,8 @@
 // The questions stand in ask.rt and steps.rt. Marks between a row's numbers are for the reader.
 #![tactic(auto)]
 
+ghost use Rattle.std.specs.Prelude.{◌≡◌, length};
+
 mod ask;
 mod edit;
 mod file;
@@ -86,8 +88,15 @@ fn tried(rt: &impl Print, order: u8, t: &[u8]) -> io::Result<()> {
     large::memories(rt, order)
 }
 
+// Room for the table.
+fn input_room() -> [u8; 65536]
+    ensures { 65536 ≡ length result }
+{
+    input::room()
+}
+
 fn main(rt: HostRuntime) -> io::Result<()> {
-    let mut buf = input::room::<65536>();
+    let mut buf = input_room();
     let n = input::read_full(&mut rt.stdin(), &mut buf)?;
     tried(&rt, 0, &buf[..n])?;
     tried(&rt, 1, &buf[..n])

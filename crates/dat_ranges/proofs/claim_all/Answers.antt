@@ -1,12 +1,12 @@
 -- At each turn the next entry's units are claimed, or it overlaps one behind it.
 use Rattle.std.proofs.Common.{refl, ◌∙◌}
 use Rattle.dat_ranges.proofs.ApartLaws.{walk_start, next_on, walk_on, walk_stop}
-use Rattle.dat_ranges.proofs.all_apart.Goals as goal
+use Rattle.dat_ranges.proofs.claim_all.Goals as goal
 
 pub loop-entry-init : goal.loop-entry-init
 loop-entry-init c =
     let e = c.rchunks_exact-entry-items.ensures in
-    rw c.into_iter-entry-iterator.ensures.into_iter_gives (e.size, walk_start _ _ refl c.requires.whole e.parts e.remainder_len)
+    rw c.into_iter-entry-iterator.ensures.into_iter_gives (e.size, walk_start _ _ c.requires.empty c.requires.whole e.parts e.remainder_len)
 
 pub claim_range-requires : goal.claim_range-requires
 claim_range-requires c =

@@ -1,0 +1,46 @@
+"""No instruction of the library stops the program: what would stand behind a fact that the proof excludes. (The module that the library for RISC-V is made of
+may have such places, `@llvm.trap`; none is left in the archives. Of RISC-V's, riscv.py knows no such instruction.)"""
+import re
+import unittest
+
+from division import ARCHIVE, instructions
+from made import Made
+
+STOPS = re.compile(r'^(?:ud[012]|int1|int3|into?|hlt)\b')
+STOP = {
+    'a trap': 'void f(int a) { if (a) __builtin_trap(); }',
+    'a place that is not reached': 'int f(int a) { __asm__ volatile ("ud2"); return a; }',
+    'a breakpoint': 'void f(void) { __asm__ volatile ("int3"); }',
+    'the end': 'void f(void) { __asm__ volatile ("hlt"); }',
+}
+NOT = {
+    'a name': 'int ud2_of(int a); int f(int a) { return ud2_of(a); } int ud2_of(int a) { return a + 1; }',
+    'a call': 'int g(int a); int f(int a) { return g(a) + 1; }',
+}
+
+
+def stops(archive):
+    return [f'{function}: {text}' for function, text in instructions(archive) if STOPS.search(text)]
+
+
+class Stops(Made):
+    def compiled(self, source):
+        return self.archive(['gcc', '-O2', '-w', '-c', '-x', 'c', '-'], source)
+
+    def test_every_stop_is_noticed(self):
+        for name, source in STOP.items():
+            with self.subTest(name):
+                self.assertEqual(len(stops(self.compiled(source))), 1)
+
+    def test_nothing_else_is(self):
+        for name, source in NOT.items():
+            with self.subTest(name):
+                self.assertEqual(stops(self.compiled(source)), [])
+
+    def test_the_library_has_none(self):
+        self.assertNotEqual(list(instructions(ARCHIVE)), [])
+        self.assertEqual(stops(ARCHIVE), [])
+
+
+if __name__ == '__main__':
+    unittest.main()
