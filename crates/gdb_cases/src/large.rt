@@ -6,9 +6,8 @@ use std::io;
 // A file's bytes with 0s behind them.
 fn extended(bytes: &[u8]) -> [u8; 65561] {
     let mut all = [0; 65561];
-    for (to, from) in all.iter_mut().zip(bytes) {
-        *to = *from;
-    }
+    let n = bytes.len().min(all.len());
+    all[..n].copy_from_slice(&bytes[..n]);
     all
 }
 
