@@ -13,10 +13,6 @@ STOP = {
     'a breakpoint': 'void f(void) { __asm__ volatile ("int3"); }',
     'the end': 'void f(void) { __asm__ volatile ("hlt"); }',
 }
-NOT = {
-    'a name': 'int ud2_of(int a); int f(int a) { return ud2_of(a); } int ud2_of(int a) { return a + 1; }',
-    'a call': 'int g(int a); int f(int a) { return g(a) + 1; }',
-}
 
 
 def stops(archive):
@@ -31,11 +27,6 @@ class Stops(Made):
         for name, source in STOP.items():
             with self.subTest(name):
                 self.assertEqual(len(stops(self.compiled(source))), 1)
-
-    def test_nothing_else_is(self):
-        for name, source in NOT.items():
-            with self.subTest(name):
-                self.assertEqual(stops(self.compiled(source)), [])
 
     def test_the_library_has_none(self):
         self.assertNotEqual(list(instructions(ARCHIVE)), [])
